@@ -1,0 +1,123 @@
+-- The laws of "the lowest" and of "the first refusal that fits". Assumes nothing.
+use mathlib.Core.Path.{_≡_, _∙_, refl, sym, ap}
+use mathlib.Core.Bool.{Bool, true, false}
+use mathlib.Core.List.{List, [], _∷_}
+use mathlib.Core.Logic.{_⊎_, inl, inr, ⊎-elim}
+use mathlib.Core.Option.{Option, none, some}
+use Prim.Native.Nat.{ℕ, zero, suc, _+_, _≤_, _<_}
+use native.Mathlib.Omega.{arith}
+use native.Mathlib.Nat.{eq-or-lt-of-le}
+use Rattle.replies.specs.declared.Reply.{Reply}
+use Rattle.replies.specs.Told.{refusedAt, succeeded}
+use Rattle.replies.specs.First.{Test, refusedOr, firstOf, lowest}
+
+-- a test's two cases, with what each says
+pub cases : (b : Bool) → (b ≡ true) ⊎ (b ≡ false)
+cases true = inl refl
+cases false = inr refl
+
+pub not-both : {b : Bool} → b ≡ true → b ≡ false → ⊥
+not-both {b} p q = let z : _≡_ {A = ℕ} 0 1 = cc in omega arith
+
+some-not-none : {i : ℕ} → _≡_ {A = Option ℕ} none (some i) → ⊥
+some-not-none p = let z : _≡_ {A = ℕ} 0 1 = cc in omega arith
+
+-- it is none of the numbers from k below i
+abbrev pub NoneBelow : (ℕ → Bool) → ℕ → ℕ → Type 0
+NoneBelow fits k i = (x : ℕ) → k ≤ x → x < i → fits x ≡ false
+
+-- one more number that it is not
+pub one-more : (fits : ℕ → Bool) {k i : ℕ} → NoneBelow fits k i → fits i ≡ false → NoneBelow fits k (i + 1)
+one-more fits {k} {i} before here x low high =
+    ⊎-elim (λ (e : x ≡ i). rw e here) (λ (l : x < i). before x low l) (eq-or-lt-of-le (at-most high))
+  where
+    at-most : x < i + 1 → x ≤ i
+    at-most h = omega arith
+
+pub lowest-none : (fits : ℕ → Bool) (k n : ℕ) → NoneBelow fits k (k + n) → lowest fits k n ≡ none
+unfolding lowest
+lowest-none fits k zero none-fits = refl
+lowest-none fits k (suc n) none-fits =
+    rw (none-fits k (omega arith) (omega arith), lowest)
+    (lowest-none fits (k + 1) n (λ x low high. none-fits x (omega arith) (omega arith)))
+
+pub lowest-found : (fits : ℕ → Bool) (k n i : ℕ) → k ≤ i → i < k + n → NoneBelow fits k i → fits i ≡ true → lowest fits k n ≡ some i
+unfolding lowest
+lowest-found fits k zero i low high before here = absurd (omega arith)
+lowest-found fits k (suc n) i low high before here =
+    ⊎-elim
+    (λ (at-k : fits k ≡ true).
+    let same : k ≡ i = ⊎-elim (λ e. e) (λ l. absurd (not-both at-k (before k (omega arith) l))) (eq-or-lt-of-le low) in
+    rw (at-k, lowest) (ap some same))
+    (λ (not-k : fits k ≡ false).
+    let later : k + 1 ≤ i = ⊎-elim (λ e. absurd (not-both here (rw e at not-k))) (λ l. omega arith) (eq-or-lt-of-le low) in
+    rw (not-k, lowest) (lowest-found fits (k + 1) n i later (omega arith) (λ x l h. before x (omega arith) h) here))
+    (cases (fits k))
+
+-- what a lowest place says: it is one of the numbers, the test holds there and at none before
+pub record Lowest (fits : ℕ → Bool) (k n i : ℕ) : Type 0 where
+  pub low : k ≤ i
+  pub high : i < k + n
+  pub here : fits i ≡ true
+  pub before : NoneBelow fits k i
+
+pub lowest-some : (fits : ℕ → Bool) (k n i : ℕ) → lowest fits k n ≡ some i → Lowest fits k n i
+unfolding lowest
+lowest-some fits k zero i e = absurd (some-not-none e)
+lowest-some fits k (suc n) i e =
+    ⊎-elim
+    (λ (at-k : fits k ≡ true).
+    let same : k ≡ i = cc (rw (at-k, lowest) at e) in
+    record { low = omega arith; high = omega arith; here = rw (← same) at-k; before = λ x low high. absurd (omega arith) })
+    (λ (not-k : fits k ≡ false).
+    let rest = lowest-some fits (k + 1) n i (rw (not-k, lowest) at e) in
+    record {
+      low = omega arith;
+      high = omega arith;
+      here = rest .here;
+      before = λ x low high.
+          ⊎-elim (λ (same : k ≡ x). rw (← same) not-k) (λ (l : k < x). rest .before x (omega arith) high) (eq-or-lt-of-le low);
+    })
+    (cases (fits k))
+
+pub lowest-is-none : (fits : ℕ → Bool) (k n : ℕ) → lowest fits k n ≡ none → NoneBelow fits k (k + n)
+unfolding lowest
+lowest-is-none fits k zero e x low high = absurd (omega arith)
+lowest-is-none fits k (suc n) e x low high =
+    ⊎-elim
+    (λ (at-k : fits k ≡ true). absurd (some-not-none (sym (rw (at-k, lowest) at e))))
+    (λ (not-k : fits k ≡ false).
+    ⊎-elim
+    (λ (same : k ≡ x). rw (← same) not-k)
+    (λ (l : k < x). lowest-is-none fits (k + 1) n (rw (not-k, lowest) at e) x (omega arith) (omega arith))
+    (eq-or-lt-of-le low))
+    (cases (fits k))
+
+-- the first refusal that fits is passed over where it does not
+pub passed-over : (t : Test) (ts : List Test) (success : Reply) → t .place ≡ none → firstOf (t ∷ ts) success ≡ firstOf ts success
+unfolding firstOf
+passed-over t ts success e = rw e
+
+-- no refusal of the list fits
+abbrev pub NoneFits : List Test → Type 0
+NoneFits [] = Unit {0}
+NoneFits (t ∷ ts) = (t .place ≡ none) × NoneFits ts
+
+pub none-fits : (ts : List Test) (success : Reply) → NoneFits ts → firstOf ts success ≡ success
+unfolding firstOf
+none-fits [] success all = refl
+none-fits (t ∷ ts) success all = rw (all .0) (none-fits ts success (all .1))
+
+abbrev pub Numbered : List Test → Type 0
+Numbered [] = Unit {0}
+Numbered (t ∷ ts) = (1 ≤ t .number) × Numbered ts
+
+-- refusals number from 1, so a reply of number 0 says that none of them fits
+pub none-fitted : (ts : List Test) (success : Reply) → Numbered ts → firstOf ts success .number ≡ 0 → NoneFits ts
+unfolding firstOf
+none-fitted [] success from-1 e = tt
+none-fitted (t ∷ ts) success from-1 e = at (t .place) refl (λ rest. none-fitted ts success (from-1 .1) rest)
+  where
+    at : (p : Option ℕ) → t .place ≡ p → (firstOf ts success .number ≡ 0 → NoneFits ts) → (t .place ≡ none) × NoneFits ts
+    at none is-none go = (is-none, go (rw (is-none, refusedOr) at e))
+    at (some place) is-some go = absurd (omega (arith, rw (is-some, refusedOr) at e))

@@ -1,0 +1,2 @@
+-- The laws of the first refusal that callers cite.
+pub mod First

@@ -1,0 +1,59 @@
+-- What each answer tells: its number, its place and its arrival. Assumes nothing.
+use Prim.Native.Nat.{ℕ}
+use Rattle.replies.specs.declared.Reply.{Reply}
+use Rattle.replies.specs.declared.Refusal.{Refusal}
+use Rattle.replies.specs.declared.Refusal.the-variants.{ShortMap, StrangeMap, Oversize, Misfit, BadJunction, BadRoad, BrokenChain, BadLettering, BadOrder, BadRules, BadTrip, Full, NoRoad, ShortSheet, TornSheet, ForeignMove, Overrun, FalseFigure, Stray, UnknownName}
+use Rattle.replies.specs.declared.Check.{Check}
+use Rattle.replies.specs.declared.NameReply.{NameReply}
+use Rattle.replies.specs.declared.Timing.{Timing}
+use Rattle.replies.specs.declared.Planning.{Planning}
+
+-- a success: number 0
+abbrev pub succeeded : ℕ → ℕ → Reply
+succeeded place arrival = record { number = 0; place = place; arrival = arrival }
+
+-- a refusal: its arrival is 0
+abbrev pub refusedAt : ℕ → ℕ → Reply
+refusedAt number place = record { number = number; place = place; arrival = 0 }
+
+abbrev pub toldRefusal : Refusal → Reply
+toldRefusal (ShortMap length) = refusedAt 1 length
+toldRefusal StrangeMap = refusedAt 2 0
+toldRefusal (Oversize offset) = refusedAt 3 offset
+toldRefusal (Misfit needed) = refusedAt 4 needed
+toldRefusal (BadJunction junction) = refusedAt 5 junction
+toldRefusal (BadRoad road) = refusedAt 6 road
+toldRefusal (BrokenChain road) = refusedAt 7 road
+toldRefusal (BadLettering offset) = refusedAt 8 offset
+toldRefusal (BadOrder length) = refusedAt 9 length
+toldRefusal (BadRules word) = refusedAt 10 word
+toldRefusal (BadTrip word) = refusedAt 11 word
+toldRefusal (Full fit) = refusedAt 12 fit
+toldRefusal (NoRoad labels) = refusedAt 13 labels
+toldRefusal (ShortSheet needed) = refusedAt 14 needed
+toldRefusal (TornSheet length) = refusedAt 15 length
+toldRefusal (ForeignMove move) = refusedAt 16 move
+toldRefusal (Overrun move) = refusedAt 17 move
+toldRefusal (FalseFigure move) = refusedAt 18 move
+toldRefusal (Stray junction) = refusedAt 19 junction
+toldRefusal (UnknownName junction) = refusedAt 20 junction
+
+-- map checked, order accepted or map chained: 0, 0, 0
+abbrev pub toldCheck : Check → Reply
+toldCheck Check.Passed = succeeded 0 0
+toldCheck (Check.Refused why) = toldRefusal why
+
+-- named: 0, name length, 0
+abbrev pub toldName : NameReply → Reply
+toldName (NameReply.Named length) = succeeded length 0
+toldName (NameReply.Refused why) = toldRefusal why
+
+-- retimed or audited: 0, M, arrival
+abbrev pub toldTiming : Timing → Reply
+toldTiming (Timing.Timed moves arrival) = succeeded moves (arrival .0)
+toldTiming (Timing.Refused why) = toldRefusal why
+
+-- planned: 0, N, arrival
+abbrev pub toldPlan : Planning → Reply
+toldPlan (Planning.Planned labels arrival) = succeeded labels (arrival .0)
+toldPlan (Planning.Refused why) = toldRefusal why

@@ -1,0 +1,3 @@
+-- The laws of words that callers cite.
+pub mod Put
+pub mod Tail
