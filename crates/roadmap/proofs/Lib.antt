@@ -1,0 +1,2 @@
+-- The laws of the map's format and of road times that callers cite.
+pub mod RoadTime

@@ -1,0 +1,142 @@
+// The road map: its format, and the time that a road takes.
+ghost use mathlib.Core.Path.{_≡_};
+ghost use Prim.Native.Nat.{_+_, _≤_};
+ghost use lib.ListN.{length};
+ghost use Rattle.roadmap.specs.Format.{HasSizes, format, junctionCount, roadCount, nameBytes, junctionWord, roadWord, firstRoad, carPark, nameStart, nameLength, roadFrom, roadTo, roadMetres, roadSpeed, nextRoad};
+ghost use Rattle.roadmap.specs.RoadTime.{roadSeconds, mostMetres, mostSpeed};
+use words::word;
+
+// How many junctions and roads a map has, and how many bytes of names.
+pub struct Sizes {
+    pub junctions: u32,
+    pub roads: u32,
+    pub names: u32,
+}
+
+impl Sizes {
+    pub const MOST_JUNCTIONS: u32 = 65535;
+
+    pub const MOST_ROADS: u32 = 262143;
+
+    pub const MOST_NAMES: u32 = 1048576;
+}
+
+pub fn map_format(map: &[u8]) -> u32
+    requires { ⌜ 16 ≤ length (now map) ⌝ }
+    ensures { λ r. ⌜ r ≡ format (now (map .entry)) ⌝ }
+{
+    word(map, 0)
+}
+
+// The header's counts, whatever they are.
+pub fn sizes_of(map: &[u8]) -> Sizes
+    requires { ⌜ 16 ≤ length (now map) ⌝ }
+    ensures { λ r. ⌜ (r .junctions ≡ junctionCount (now (map .entry))) × (r .roads ≡ roadCount (now (map .entry))) × (r .names ≡ nameBytes (now (map .entry))) ⌝ }
+{
+    Sizes {
+        junctions: word(map, 4),
+        roads: word(map, 8),
+        names: word(map, 12),
+    }
+}
+
+// The word at an offset of junction j.
+fn junction_word(map: &[u8], sizes: Sizes, j: u32, offset: usize) -> u32
+    requires { ⌜ HasSizes (now map) sizes ⌝ }
+    requires { ⌜ (1 ≤ j) × (j ≤ sizes .junctions) × (offset ≤ 12) ⌝ }
+    ensures { λ r. ⌜ r ≡ junctionWord (now (map .entry)) j offset ⌝ }
+{
+    word(map, 16 + 16 * (j as usize - 1) + offset)
+}
+
+pub fn first_road(map: &[u8], sizes: Sizes, j: u32) -> u32
+    requires { ⌜ HasSizes (now map) sizes ⌝ }
+    requires { ⌜ (1 ≤ j) × (j ≤ sizes .junctions) ⌝ }
+    ensures { λ r. ⌜ r ≡ firstRoad (now (map .entry)) j ⌝ }
+{
+    junction_word(map, sizes, j, 0)
+}
+
+pub fn car_park(map: &[u8], sizes: Sizes, j: u32) -> u32
+    requires { ⌜ HasSizes (now map) sizes ⌝ }
+    requires { ⌜ (1 ≤ j) × (j ≤ sizes .junctions) ⌝ }
+    ensures { λ r. ⌜ r ≡ carPark (now (map .entry)) j ⌝ }
+{
+    junction_word(map, sizes, j, 4)
+}
+
+pub fn name_start(map: &[u8], sizes: Sizes, j: u32) -> u32
+    requires { ⌜ HasSizes (now map) sizes ⌝ }
+    requires { ⌜ (1 ≤ j) × (j ≤ sizes .junctions) ⌝ }
+    ensures { λ r. ⌜ r ≡ nameStart (now (map .entry)) j ⌝ }
+{
+    junction_word(map, sizes, j, 8)
+}
+
+pub fn name_length(map: &[u8], sizes: Sizes, j: u32) -> u32
+    requires { ⌜ HasSizes (now map) sizes ⌝ }
+    requires { ⌜ (1 ≤ j) × (j ≤ sizes .junctions) ⌝ }
+    ensures { λ r. ⌜ r ≡ nameLength (now (map .entry)) j ⌝ }
+{
+    junction_word(map, sizes, j, 12)
+}
+
+// The word at an offset of road r.
+fn road_word(map: &[u8], sizes: Sizes, r: u32, offset: usize) -> u32
+    requires { ⌜ HasSizes (now map) sizes ⌝ }
+    requires { ⌜ (1 ≤ r) × (r ≤ sizes .roads) × (offset ≤ 16) ⌝ }
+    ensures { λ w. ⌜ w ≡ roadWord (now (map .entry)) r offset ⌝ }
+{
+    word(
+        map,
+        16 + 16 * (sizes.junctions as usize) + 20 * (r as usize - 1) + offset,
+    )
+}
+
+pub fn road_from(map: &[u8], sizes: Sizes, r: u32) -> u32
+    requires { ⌜ HasSizes (now map) sizes ⌝ }
+    requires { ⌜ (1 ≤ r) × (r ≤ sizes .roads) ⌝ }
+    ensures { λ w. ⌜ w ≡ roadFrom (now (map .entry)) r ⌝ }
+{
+    road_word(map, sizes, r, 0)
+}
+
+pub fn road_to(map: &[u8], sizes: Sizes, r: u32) -> u32
+    requires { ⌜ HasSizes (now map) sizes ⌝ }
+    requires { ⌜ (1 ≤ r) × (r ≤ sizes .roads) ⌝ }
+    ensures { λ w. ⌜ w ≡ roadTo (now (map .entry)) r ⌝ }
+{
+    road_word(map, sizes, r, 4)
+}
+
+pub fn road_metres(map: &[u8], sizes: Sizes, r: u32) -> u32
+    requires { ⌜ HasSizes (now map) sizes ⌝ }
+    requires { ⌜ (1 ≤ r) × (r ≤ sizes .roads) ⌝ }
+    ensures { λ w. ⌜ w ≡ roadMetres (now (map .entry)) r ⌝ }
+{
+    road_word(map, sizes, r, 8)
+}
+
+pub fn road_speed(map: &[u8], sizes: Sizes, r: u32) -> u32
+    requires { ⌜ HasSizes (now map) sizes ⌝ }
+    requires { ⌜ (1 ≤ r) × (r ≤ sizes .roads) ⌝ }
+    ensures { λ w. ⌜ w ≡ roadSpeed (now (map .entry)) r ⌝ }
+{
+    road_word(map, sizes, r, 12)
+}
+
+pub fn next_road(map: &[u8], sizes: Sizes, r: u32) -> u32
+    requires { ⌜ HasSizes (now map) sizes ⌝ }
+    requires { ⌜ (1 ≤ r) × (r ≤ sizes .roads) ⌝ }
+    ensures { λ w. ⌜ w ≡ nextRoad (now (map .entry)) r ⌝ }
+{
+    road_word(map, sizes, r, 16)
+}
+
+// The seconds that so many metres take at so many kilometres an hour.
+pub fn road_seconds(metres: u32, speed: u32) -> u32
+    requires { ⌜ (metres ≤ mostMetres) × (1 ≤ speed) × (speed ≤ mostSpeed) ⌝ }
+    ensures { λ r. ⌜ r ≡ roadSeconds metres speed ⌝ }
+{
+    (18 * metres + (5 * speed - 1)) / (5 * speed)
+}
