@@ -6,6 +6,8 @@ use Prim.Native.Nat.{ℕ, _+_, _*_, _-_, _≤_}
 use lib.ListN.{length}
 use Rattle.words.specs.Word.{wordAt}
 use Rattle.roadmap.specs.declared.Sizes.{Sizes}
+use Rattle.roadmap.specs.declared.Junction.{Junction}
+use Rattle.roadmap.specs.declared.Road.{Road}
 
 -- the header: format, junction count J, road count R, name bytes L
 unfoldable pub format : List ℕ → ℕ
@@ -77,6 +79,21 @@ roadSpeed map r = roadWord map r 12
 
 abbrev pub nextRoad : List ℕ → ℕ → ℕ
 nextRoad map r = roadWord map r 16
+
+-- all fields at once
+abbrev pub junctionOf : List ℕ → ℕ → Junction
+junctionOf map j =
+    record { first = firstRoad map j; parking = carPark map j; start = nameStart map j; length = nameLength map j }
+
+abbrev pub roadOf : List ℕ → ℕ → Road
+roadOf map r =
+    record {
+      from = roadFrom map r;
+      to = roadTo map r;
+      metres = roadMetres map r;
+      speed = roadSpeed map r;
+      next = nextRoad map r;
+    }
 
 -- the counts are the header's, in range, and the map is as long as they need
 pub record HasSizes (map : List ℕ) (sizes : Sizes) : Type 0 where

@@ -2,7 +2,7 @@
 ghost use mathlib.Core.Path.{_≡_};
 ghost use Prim.Native.Nat.{_+_, _≤_};
 ghost use lib.ListN.{length};
-ghost use Rattle.roadmap.specs.Format.{HasSizes, format, junctionCount, roadCount, nameBytes, junctionWord, roadWord, firstRoad, carPark, nameStart, nameLength, roadFrom, roadTo, roadMetres, roadSpeed, nextRoad};
+ghost use Rattle.roadmap.specs.Format.{HasSizes, format, junctionCount, roadCount, nameBytes, junctionWord, roadWord, junctionOf, roadOf, firstRoad, carPark, nameStart, nameLength, roadFrom, roadTo, roadMetres, roadSpeed, nextRoad};
 ghost use Rattle.roadmap.specs.RoadTime.{roadSeconds, mostMetres, mostSpeed};
 use words::word;
 
@@ -19,6 +19,24 @@ impl Sizes {
     pub const MOST_ROADS: u32 = 262143;
 
     pub const MOST_NAMES: u32 = 1048576;
+}
+
+// A junction's four words: its first road, whether it is a car park, where its name starts and how
+// long that is.
+pub struct Junction {
+    pub first: u32,
+    pub parking: u32,
+    pub start: u32,
+    pub length: u32,
+}
+
+// A road's five words.
+pub struct Road {
+    pub from: u32,
+    pub to: u32,
+    pub metres: u32,
+    pub speed: u32,
+    pub next: u32,
 }
 
 pub fn map_format(map: &[u8]) -> u32
@@ -81,6 +99,19 @@ pub fn name_length(map: &[u8], sizes: Sizes, j: u32) -> u32
     junction_word(map, sizes, j, 12)
 }
 
+pub fn read_junction(map: &[u8], sizes: Sizes, j: u32) -> Junction
+    requires { ⌜ HasSizes (now map) sizes ⌝ }
+    requires { ⌜ (1 ≤ j) × (j ≤ sizes .junctions) ⌝ }
+    ensures { λ r. ⌜ r ≡ junctionOf (now (map .entry)) j ⌝ }
+{
+    Junction {
+        first: junction_word(map, sizes, j, 0),
+        parking: junction_word(map, sizes, j, 4),
+        start: junction_word(map, sizes, j, 8),
+        length: junction_word(map, sizes, j, 12),
+    }
+}
+
 // The word at an offset of road r.
 fn road_word(map: &[u8], sizes: Sizes, r: u32, offset: usize) -> u32
     requires { ⌜ HasSizes (now map) sizes ⌝ }
@@ -131,6 +162,20 @@ pub fn next_road(map: &[u8], sizes: Sizes, r: u32) -> u32
     ensures { λ w. ⌜ w ≡ nextRoad (now (map .entry)) r ⌝ }
 {
     road_word(map, sizes, r, 16)
+}
+
+pub fn read_road(map: &[u8], sizes: Sizes, r: u32) -> Road
+    requires { ⌜ HasSizes (now map) sizes ⌝ }
+    requires { ⌜ (1 ≤ r) × (r ≤ sizes .roads) ⌝ }
+    ensures { λ w. ⌜ w ≡ roadOf (now (map .entry)) r ⌝ }
+{
+    Road {
+        from: road_word(map, sizes, r, 0),
+        to: road_word(map, sizes, r, 4),
+        metres: road_word(map, sizes, r, 8),
+        speed: road_word(map, sizes, r, 12),
+        next: road_word(map, sizes, r, 16),
+    }
 }
 
 // The seconds that so many metres take at so many kilometres an hour.
