@@ -1,15 +1,19 @@
 -- The laws of "the lowest" and of "the first refusal that fits". Assumes nothing.
 use mathlib.Core.Path.{_≡_, _∙_, refl, sym, ap}
 use mathlib.Core.Bool.{Bool, true, false}
-use mathlib.Core.List.{List, [], _∷_}
+use mathlib.Core.List.{List, [], _∷_, _++_}
 use mathlib.Core.Logic.{_⊎_, inl, inr, ⊎-elim}
 use mathlib.Core.Option.{Option, none, some}
 use Prim.Native.Nat.{ℕ, zero, suc, _+_, _≤_, _<_}
 use native.Mathlib.Omega.{arith}
 use native.Mathlib.Nat.{eq-or-lt-of-le}
+use lib.Dec.{lit≤}
 use Rattle.replies.specs.declared.Reply.{Reply}
-use Rattle.replies.specs.Told.{refusedAt, succeeded}
-use Rattle.replies.specs.First.{Test, refusedOr, firstOf, lowest}
+use Rattle.replies.specs.declared.Refusal.{Refusal}
+use Rattle.replies.specs.declared.Refusal.the-variants.{ShortMap, StrangeMap, Oversize, Misfit, BadJunction, BadRoad, BrokenChain, BadLettering, BadOrder, BadRules, BadTrip, Full, NoRoad, ShortSheet, TornSheet, ForeignMove, Overrun, FalseFigure, Stray, UnknownName}
+use Rattle.replies.specs.declared.Check.{Check}
+use Rattle.replies.specs.Told.{refusedAt, succeeded, toldRefusal, toldCheck}
+use Rattle.replies.specs.First.{Test, refusedOr, firstOf, lowest, NoneFits, Refuses, Tried}
 
 -- a test's two cases, with what each says
 pub cases : (b : Bool) → (b ≡ true) ⊎ (b ≡ false)
@@ -98,15 +102,11 @@ pub passed-over : (t : Test) (ts : List Test) (success : Reply) → t .place ≡
 unfolding firstOf
 passed-over t ts success e = rw e
 
--- no refusal of the list fits
-abbrev pub NoneFits : List Test → Type 0
-NoneFits [] = Unit {0}
-NoneFits (t ∷ ts) = (t .place ≡ none) × NoneFits ts
-
-pub none-fits : (ts : List Test) (success : Reply) → NoneFits ts → firstOf ts success ≡ success
+-- a list of which none fits is passed over
+pub none-fits : (ts rest : List Test) (success : Reply) → NoneFits ts → firstOf (ts ++ rest) success ≡ firstOf rest success
 unfolding firstOf
-none-fits [] success all = refl
-none-fits (t ∷ ts) success all = rw (all .0) (none-fits ts success (all .1))
+none-fits [] rest success all = refl
+none-fits (t ∷ ts) rest success all = rw (all .0) (none-fits ts rest success (all .1))
 
 abbrev pub Numbered : List Test → Type 0
 Numbered [] = Unit {0}
@@ -121,3 +121,40 @@ none-fitted (t ∷ ts) success from-1 e = at (t .place) refl (λ rest. none-fitt
     at : (p : Option ℕ) → t .place ≡ p → (firstOf ts success .number ≡ 0 → NoneFits ts) → (t .place ≡ none) × NoneFits ts
     at none is-none go = (is-none, go (rw (is-none, refusedOr) at e))
     at (some place) is-some go = absurd (omega (arith, rw (is-some, refusedOr) at e))
+
+refusal-number : (why : Refusal) → 1 ≤ toldRefusal why .number
+refusal-number (ShortMap p) = lit≤ tt
+refusal-number StrangeMap = lit≤ tt
+refusal-number (Oversize p) = lit≤ tt
+refusal-number (Misfit p) = lit≤ tt
+refusal-number (BadJunction p) = lit≤ tt
+refusal-number (BadRoad p) = lit≤ tt
+refusal-number (BrokenChain p) = lit≤ tt
+refusal-number (BadLettering p) = lit≤ tt
+refusal-number (BadOrder p) = lit≤ tt
+refusal-number (BadRules p) = lit≤ tt
+refusal-number (BadTrip p) = lit≤ tt
+refusal-number (Full p) = lit≤ tt
+refusal-number (NoRoad p) = lit≤ tt
+refusal-number (ShortSheet p) = lit≤ tt
+refusal-number (TornSheet p) = lit≤ tt
+refusal-number (ForeignMove p) = lit≤ tt
+refusal-number (Overrun p) = lit≤ tt
+refusal-number (FalseFigure p) = lit≤ tt
+refusal-number (Stray p) = lit≤ tt
+refusal-number (UnknownName p) = lit≤ tt
+
+refuses : (ts : List Test) (why : Refusal) → firstOf ts (succeeded 0 0) ≡ toldRefusal why → Refuses ts why
+unfolding firstOf
+refuses [] why e rest success = absurd (omega (arith, refusal-number why, ap (λ (r : Reply). r .number) e))
+refuses (t ∷ ts) why e rest success = at (t .place) refl (λ e. refuses ts why e rest success)
+  where
+    at : (p : Option ℕ) → t .place ≡ p → (firstOf ts (succeeded 0 0) ≡ toldRefusal why → firstOf (ts ++ rest) success ≡ toldRefusal why)
+        → refusedOr (t .number) (t .place) (firstOf (ts ++ rest) success) ≡ toldRefusal why
+    at none is-none go = rw is-none (go (rw (is-none, refusedOr) at e))
+    at (some place) is-some go = rw is-some (rw (is-some, refusedOr) at e)
+
+-- an operation's answer says which refusals of its list fit
+pub tried : (ts : List Test) (answer : Check) → Numbered ts → toldCheck answer ≡ firstOf ts (succeeded 0 0) → Tried ts answer
+tried ts Check.Passed from-1 e = none-fitted ts (succeeded 0 0) from-1 (sym (ap (λ (r : Reply). r .number) e))
+tried ts (Check.Refused why) from-1 e = refuses ts why (sym e)

@@ -1,10 +1,13 @@
 -- The first refusal that fits, in an order that is a list. Assumes nothing.
 use Prim.Native.Nat.{ℕ, zero, suc, _+_}
 use mathlib.Core.Bool.{Bool, true, false}
-use mathlib.Core.List.{List, [], _∷_}
+use mathlib.Core.Path.{_≡_}
+use mathlib.Core.List.{List, [], _∷_, _++_}
 use mathlib.Core.Option.{Option, none, some}
 use Rattle.replies.specs.declared.Reply.{Reply}
-use Rattle.replies.specs.Told.{refusedAt}
+use Rattle.replies.specs.declared.Refusal.{Refusal}
+use Rattle.replies.specs.declared.Check.{Check}
+use Rattle.replies.specs.Told.{refusedAt, toldRefusal}
 
 -- a refusal's number, and its place where it fits
 pub record Test : Type 0 where
@@ -34,3 +37,17 @@ placed false place = none
 unfoldable pub lowest : (ℕ → Bool) → ℕ → ℕ → Option ℕ
 lowest fits k zero = none
 lowest fits k (suc n) = elim (fits k) [ true ↦ some k | false ↦ lowest fits (k + 1) n ]
+
+-- no refusal of the list fits
+abbrev pub NoneFits : List Test → Type 0
+NoneFits [] = Unit {0}
+NoneFits (t ∷ ts) = (t .place ≡ none) × NoneFits ts
+
+-- the first refusal of the list that fits is this one, whatever is tried after the list
+abbrev pub Refuses : List Test → Refusal → Type 0
+Refuses ts why = (rest : List Test) (success : Reply) → firstOf (ts ++ rest) success ≡ toldRefusal why
+
+-- what an answer says of a list that was tried
+abbrev pub Tried : List Test → Check → Type 0
+Tried ts Check.Passed = NoneFits ts
+Tried ts (Check.Refused why) = Refuses ts why
