@@ -39,6 +39,14 @@ pub struct Road {
     pub next: u32,
 }
 
+impl Road {
+    pub const MOST_METRES: u32 = 2000000;
+
+    pub const LEAST_SPEED: u32 = 5;
+
+    pub const MOST_SPEED: u32 = 130;
+}
+
 pub fn map_format(map: &[u8]) -> u32
     requires { ⌜ 16 ≤ length (now map) ⌝ }
     ensures { λ r. ⌜ r ≡ format (now (map .entry)) ⌝ }

@@ -1,0 +1,3 @@
+-- The laws of the map check.
+pub mod Fields
+pub mod Counts

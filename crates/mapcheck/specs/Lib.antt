@@ -1,0 +1,3 @@
+pub mod MapCheck
+pub mod Chain
+pub mod Found

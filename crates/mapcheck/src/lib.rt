@@ -1,0 +1,193 @@
+// The map check: refusals 1 to 8.
+ghost use mathlib.Core.Path.{_≡_};
+ghost use Prim.Native.Nat.{_+_, _-_, _≤_};
+ghost use lib.ListN.{length};
+ghost use Rattle.replies.specs.First.{firstOf, lowest};
+ghost use Rattle.replies.specs.Told.{succeeded, toldCheck};
+ghost use Rattle.roadmap.specs.Format.{HasSizes};
+ghost use Rattle.mapcheck.specs.Found.{found, HeaderSays, contentTests};
+ghost use Rattle.mapcheck.specs.MapCheck.{outside, oversizeCounts, mapTests, chainingTests, badLettering, badPlace, badJunctionFields, badJunction, badStretch, badNext, badRoadFields, badRoad, badLetterAt};
+use replies::Check;
+use replies::Refusal;
+use roadmap::Junction;
+use roadmap::Road;
+use roadmap::Sizes;
+
+// The lowest place of a fault, or none.
+pub enum Found {
+    At(usize),
+    Nothing,
+}
+
+// The counts of a map that is as long as they need, or why there are none.
+pub enum Header {
+    Fits(Sizes),
+    Refused(Refusal),
+}
+
+fn outside(low: u32, high: u32, value: u32) -> bool
+    ensures { λ r. ⌜ r ≡ outside low high value ⌝ }
+{
+    if value < low {
+        return true;
+    }
+    high < value
+}
+
+// Whether a junction's flag or the place of its name is wrong.
+fn place_is_bad(junction: Junction, names: u32) -> bool
+    ensures { λ r. ⌜ r ≡ badPlace names junction ⌝ }
+{
+    if 1 < junction.parking {
+        return true;
+    }
+    if outside(1, 32, junction.length) {
+        return true;
+    }
+    let end = (junction.start as usize) + (junction.length as usize);
+    (names as usize) < end
+}
+
+fn junction_is_bad(junction: Junction, sizes: Sizes, links: bool) -> bool
+    ensures { λ r. ⌜ r ≡ badJunctionFields links (sizes .roads) (sizes .names) junction ⌝ }
+{
+    if !links {
+        return place_is_bad(junction, sizes.names);
+    }
+    if sizes.roads < junction.first {
+        return true;
+    }
+    place_is_bad(junction, sizes.names)
+}
+
+// Whether a road's ends, length or speed are wrong.
+fn stretch_is_bad(road: Road, junctions: u32) -> bool
+    ensures { λ r. ⌜ r ≡ badStretch junctions road ⌝ }
+{
+    if outside(1, junctions, road.from) {
+        return true;
+    }
+    if outside(1, junctions, road.to) {
+        return true;
+    }
+    if outside(1, Road::MOST_METRES, road.metres) {
+        return true;
+    }
+    outside(Road::LEAST_SPEED, Road::MOST_SPEED, road.speed)
+}
+
+fn next_is_bad(roads: u32, r: u32, next: u32) -> bool
+    ensures { λ w. ⌜ w ≡ badNext roads r next ⌝ }
+{
+    if next == 0 {
+        return false;
+    }
+    if next <= r {
+        return true;
+    }
+    roads < next
+}
+
+fn road_is_bad(road: Road, sizes: Sizes, r: u32, links: bool) -> bool
+    ensures { λ w. ⌜ w ≡ badRoadFields links (sizes .junctions) (sizes .roads) r road ⌝ }
+{
+    if !links {
+        return stretch_is_bad(road, sizes.junctions);
+    }
+    if next_is_bad(sizes.roads, r, road.next) {
+        return true;
+    }
+    stretch_is_bad(road, sizes.junctions)
+}
+
+// The lowest junction with a wrong field.
+fn bad_junction(map: &[u8], sizes: Sizes, links: bool) -> Found
+    requires { ⌜ HasSizes (now map) sizes ⌝ }
+    ensures { λ r. ⌜ found r ≡ badJunction links (now (map .entry)) ⌝ }
+{
+    let mut j: u32 = 1;
+    while j <= sizes.junctions {
+        if junction_is_bad(roadmap::read_junction(map, sizes, j), sizes, links) {
+            return Found::At(j as usize);
+        }
+        j += 1;
+    }
+    Found::Nothing
+}
+
+// The lowest road with a wrong field.
+fn bad_road(map: &[u8], sizes: Sizes, links: bool) -> Found
+    requires { ⌜ HasSizes (now map) sizes ⌝ }
+    ensures { λ r. ⌜ found r ≡ badRoad links (now (map .entry)) ⌝ }
+{
+    let mut r: u32 = 1;
+    while r <= sizes.roads {
+        if road_is_bad(roadmap::read_road(map, sizes, r), sizes, r, links) {
+            return Found::At(r as usize);
+        }
+        r += 1;
+    }
+    Found::Nothing
+}
+
+fn letter_is_bad(letter: u8) -> bool
+    ensures { λ r. ⌜ r ≡ outside 0x20 0x7E letter ⌝ }
+{
+    outside(0x20, 0x7E, letter as u32)
+}
+
+// The lowest offset, from `from` on, of a byte that is no letter.
+fn bad_lettering(map: &[u8], from: usize) -> Found
+    requires { ⌜ from ≤ length (now map) ⌝ }
+    ensures { λ r. ⌜ found r ≡ lowest (badLetterAt (now (map .entry))) from (length (now (map .entry)) - from) ⌝ }
+{
+    let mut i = from;
+    while i < map.len() {
+        if letter_is_bad(map[i]) {
+            return Found::At(i);
+        }
+        i += 1;
+    }
+    Found::Nothing
+}
+
+// The header's first count that is out of range, by its offset.
+fn oversize(sizes: Sizes) -> Found
+    ensures { λ r. ⌜ found r ≡ oversizeCounts (sizes .junctions) (sizes .roads) (sizes .names) ⌝ }
+{
+    if outside(1, Sizes::MOST_JUNCTIONS, sizes.junctions) {
+        return Found::At(4);
+    }
+    if outside(0, Sizes::MOST_ROADS, sizes.roads) {
+        return Found::At(8);
+    }
+    if outside(0, Sizes::MOST_NAMES, sizes.names) {
+        return Found::At(12);
+    }
+    Found::Nothing
+}
+
+// Refusals 1 to 4.
+fn read_header(map: &[u8]) -> Header
+    ensures { λ r. ⌜ HeaderSays (now (map .entry)) r ⌝ }
+{
+    if map.len() < 16 {
+        return Header::Refused(Refusal::ShortMap(map.len()));
+    }
+    if roadmap::map_format(map) != 1 {
+        return Header::Refused(Refusal::StrangeMap);
+    }
+    let sizes = roadmap::sizes_of(map);
+    let fault = oversize(sizes);
+    if let Found::At(offset) = fault {
+        return Header::Refused(Refusal::Oversize(offset));
+    }
+    let needed = 16
+        + 16 * (sizes.junctions as usize)
+        + 20 * (sizes.roads as usize)
+        + (sizes.names as usize);
+    if map.len() != needed {
+        return Header::Refused(Refusal::Misfit(needed));
+    }
+    Header::Fits(sizes)
+}
