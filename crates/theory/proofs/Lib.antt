@@ -1,0 +1,11 @@
+-- The laws of the theory of a label-setting search over any type of states.
+-- Assumes nothing.
+pub mod Tests
+pub mod Lists
+pub mod Sorting
+pub mod Reachable
+pub mod Dominance
+pub mod Settling
+pub mod Labels
+pub mod Endings
+pub mod Parents

@@ -1,0 +1,7 @@
+-- The definitions of the theory of a label-setting search over any type of states.
+-- Assumes nothing.
+pub mod Lists
+pub mod States
+pub mod Settling
+pub mod Reachable
+pub mod Labels
