@@ -31,7 +31,7 @@ within {low} {high} {value} e =
     let both = or-false e in
     record { above = ltb-false _ _ (both .0); below = ltb-false _ _ (both .1) }
 
-placed-none : {b : Bool} (place : ℕ) → placed b place ≡ none → b ≡ false
+pub placed-none : {b : Bool} (place : ℕ) → placed b place ≡ none → b ≡ false
 placed-none {b = true} place e = absurd (let z : _≡_ {A = ℕ} 0 1 = cc in omega arith)
 placed-none {b = false} place e = refl
 

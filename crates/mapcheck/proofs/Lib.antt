@@ -1,3 +1,7 @@
 -- The laws of the map check.
 pub mod Fields
 pub mod Counts
+pub mod Reaches
+pub mod Due
+pub mod Listed
+pub mod Sound

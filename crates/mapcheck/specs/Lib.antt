@@ -1,3 +1,6 @@
 pub mod MapCheck
 pub mod Chain
+pub mod Links
+pub mod Due
+pub mod Listed
 pub mod Found

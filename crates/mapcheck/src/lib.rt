@@ -1,12 +1,14 @@
 // The map check: refusals 1 to 8.
 ghost use mathlib.Core.Path.{_≡_};
-ghost use Prim.Native.Nat.{_+_, _-_, _≤_};
+ghost use Prim.Native.Nat.{_+_, _-_, _≤_, _<_};
 ghost use lib.ListN.{length};
 ghost use Rattle.replies.specs.First.{firstOf, lowest};
 ghost use Rattle.replies.specs.Told.{succeeded, toldCheck};
-ghost use Rattle.roadmap.specs.Format.{HasSizes};
+ghost use Rattle.roadmap.specs.Format.{HasSizes, junctionCount, roadFrom};
+ghost use Rattle.mapcheck.specs.Links.{MapLinks};
+ghost use Rattle.mapcheck.specs.Due.{note, MapDue};
 ghost use Rattle.mapcheck.specs.Found.{found, HeaderSays, contentTests};
-ghost use Rattle.mapcheck.specs.MapCheck.{outside, oversizeCounts, mapTests, chainingTests, badLettering, badPlace, badJunctionFields, badJunction, badStretch, badNext, badRoadFields, badRoad, badLetterAt};
+ghost use Rattle.mapcheck.specs.MapCheck.{outside, oversizeCounts, mapTests, chainingTests, badLettering, badPlace, badJunctionFields, badJunction, badStretch, badNext, badRoadFields, badRoad, brokenChain, badLetterAt};
 use replies::Check;
 use replies::Refusal;
 use roadmap::Junction;
@@ -190,4 +192,74 @@ fn read_header(map: &[u8]) -> Header
         return Header::Refused(Refusal::Misfit(needed));
     }
     Header::Fits(sizes)
+}
+
+// The lower of `least` and road v, where v falls due on the chain of junction j and is not j's.
+fn noted(map: &[u8], sizes: Sizes, j: u32, v: u32, least: u32) -> u32
+    requires { ⌜ HasSizes (now map) sizes ⌝ }
+    requires { ⌜ v ≤ sizes .roads ⌝ }
+    ensures { λ r. ⌜ r ≡ note (roadFrom (now (map .entry))) j v least ⌝ }
+{
+    if v == 0 {
+        return least;
+    }
+    if roadmap::road_from(map, sizes, v) == j {
+        return least;
+    }
+    if v < least { v } else { least }
+}
+
+// Makes each junction's first road due, and returns the least of them that is not the junction's.
+fn begin_chains(map: &[u8], sizes: Sizes, due: &mut [u32]) -> u32
+    requires { ⌜ HasSizes (now map) sizes ⌝ }
+    requires { ⌜ MapLinks (now map) ⌝ }
+    requires { ⌜ sizes .junctions < length (now due) ⌝ }
+    ensures { λ r. ⌜ MapDue (now (map .entry)) (now (due .exit)) (junctionCount (now (map .entry)) + 1) 1 r ⌝ }
+{
+    let mut foreign = sizes.roads + 1;
+    let mut j: u32 = 1;
+    while j <= sizes.junctions {
+        let first = roadmap::first_road(map, sizes, j);
+        due[j as usize] = first;
+        foreign = noted(map, sizes, j, first, foreign);
+        j += 1;
+    }
+    foreign
+}
+
+// The lowest road that is off its own chain or on another's: each road in turn is due on its own
+// chain and noticed on no other.
+fn follow_chains(map: &[u8], sizes: Sizes, due: &mut [u32], least: u32) -> Found
+    requires { ⌜ HasSizes (now map) sizes ⌝ }
+    requires { ⌜ MapLinks (now map) ⌝ }
+    requires { ⌜ sizes .junctions < length (now due) ⌝ }
+    requires { ⌜ MapDue (now map) (now due) (junctionCount (now map) + 1) 1 least ⌝ }
+    ensures { λ r. ⌜ found r ≡ brokenChain (now (map .entry)) ⌝ }
+{
+    let mut foreign = least;
+    let mut r: u32 = 1;
+    while r <= sizes.roads {
+        if r == foreign {
+            return Found::At(r as usize);
+        }
+        let from = roadmap::road_from(map, sizes, r);
+        if due[from as usize] != r {
+            return Found::At(r as usize);
+        }
+        let next = roadmap::next_road(map, sizes, r);
+        due[from as usize] = next;
+        foreign = noted(map, sizes, from, next, foreign);
+        r += 1;
+    }
+    Found::Nothing
+}
+
+fn broken_chain(map: &[u8], sizes: Sizes) -> Found
+    requires { ⌜ HasSizes (now map) sizes ⌝ }
+    requires { ⌜ MapLinks (now map) ⌝ }
+    ensures { λ r. ⌜ found r ≡ brokenChain (now (map .entry)) ⌝ }
+{
+    let mut due = [0u32; 65536];
+    let least = begin_chains(map, sizes, &mut due);
+    follow_chains(map, sizes, &mut due, least)
 }
