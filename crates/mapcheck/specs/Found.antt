@@ -1,6 +1,6 @@
 -- What the parts of the check find. Assumes nothing.
 use mathlib.Core.Bool.{Bool, true, false}
-use mathlib.Core.List.{List, [], _∷_}
+use mathlib.Core.List.{List, [], _∷_, _++_}
 use mathlib.Core.Option.{Option, none, some}
 use Prim.Native.Nat.{ℕ}
 use Rattle.replies.specs.First.{Test, _at_, NoneFits, Refuses}
@@ -26,3 +26,6 @@ lateTests false map = (8 at badLettering map) ∷ []
 
 abbrev pub contentTests : Bool → List ℕ → List Test
 contentTests links map = (5 at badJunction links map) ∷ (6 at badRoad links map) ∷ lateTests links map
+
+abbrev pub partTests : Bool → List ℕ → List Test
+partTests links map = sizeTests map ++ contentTests links map

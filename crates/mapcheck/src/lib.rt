@@ -1,4 +1,5 @@
 // The map check: refusals 1 to 8.
+ghost use mathlib.Core.Bool.{true, false};
 ghost use mathlib.Core.Path.{_≡_};
 ghost use Prim.Native.Nat.{_+_, _-_, _≤_, _<_};
 ghost use lib.ListN.{length};
@@ -7,7 +8,7 @@ ghost use Rattle.replies.specs.Told.{succeeded, toldCheck};
 ghost use Rattle.roadmap.specs.Format.{HasSizes, junctionCount, roadFrom};
 ghost use Rattle.mapcheck.specs.Links.{MapLinks};
 ghost use Rattle.mapcheck.specs.Due.{note, MapDue};
-ghost use Rattle.mapcheck.specs.Found.{found, HeaderSays, contentTests};
+ghost use Rattle.mapcheck.specs.Found.{found, HeaderSays, lateTests, contentTests, partTests};
 ghost use Rattle.mapcheck.specs.MapCheck.{outside, oversizeCounts, mapTests, chainingTests, badLettering, badPlace, badJunctionFields, badJunction, badStretch, badNext, badRoadFields, badRoad, brokenChain, badLetterAt};
 use replies::Check;
 use replies::Refusal;
@@ -262,4 +263,74 @@ fn broken_chain(map: &[u8], sizes: Sizes) -> Found
     let mut due = [0u32; 65536];
     let least = begin_chains(map, sizes, &mut due);
     follow_chains(map, sizes, &mut due, least)
+}
+
+// Refusal 8.
+fn check_letters(map: &[u8], sizes: Sizes) -> Check
+    requires { ⌜ HasSizes (now map) sizes ⌝ }
+    ensures { λ r. ⌜ toldCheck r ≡ firstOf (lateTests false (now (map .entry))) (succeeded 0 0) ⌝ }
+{
+    let from = 16 + 16 * (sizes.junctions as usize) + 20 * (sizes.roads as usize);
+    let fault = bad_lettering(map, from);
+    if let Found::At(place) = fault {
+        return Check::Refused(Refusal::BadLettering(place));
+    }
+    Check::Passed
+}
+
+// Refusals 7 and 8.
+fn check_chains(map: &[u8], sizes: Sizes) -> Check
+    requires { ⌜ HasSizes (now map) sizes ⌝ }
+    requires { ⌜ MapLinks (now map) ⌝ }
+    ensures { λ r. ⌜ toldCheck r ≡ firstOf (lateTests true (now (map .entry))) (succeeded 0 0) ⌝ }
+{
+    let fault = broken_chain(map, sizes);
+    if let Found::At(road) = fault {
+        return Check::Refused(Refusal::BrokenChain(road));
+    }
+    check_letters(map, sizes)
+}
+
+// Refusals 5 to 8; without the links 5, 6 and 8.
+fn check_content(map: &[u8], sizes: Sizes, links: bool) -> Check
+    requires { ⌜ HasSizes (now map) sizes ⌝ }
+    ensures { λ r. ⌜ toldCheck r ≡ firstOf (contentTests links (now (map .entry))) (succeeded 0 0) ⌝ }
+{
+    let bad_place = bad_junction(map, sizes, links);
+    if let Found::At(junction) = bad_place {
+        return Check::Refused(Refusal::BadJunction(junction));
+    }
+    let bad_stretch = bad_road(map, sizes, links);
+    if let Found::At(road) = bad_stretch {
+        return Check::Refused(Refusal::BadRoad(road));
+    }
+    if links {
+        return check_chains(map, sizes);
+    }
+    check_letters(map, sizes)
+}
+
+// All refusals of a map, with the links or without.
+fn check_parts(map: &[u8], links: bool) -> Check
+    ensures { λ r. ⌜ toldCheck r ≡ firstOf (partTests links (now (map .entry))) (succeeded 0 0) ⌝ }
+{
+    let header = read_header(map);
+    match header {
+        Header::Refused(why) => Check::Refused(why),
+        Header::Fits(sizes) => check_content(map, sizes, links),
+    }
+}
+
+// The map check.
+pub fn check_map(map: &[u8]) -> Check
+    ensures { λ r. ⌜ toldCheck r ≡ firstOf (mapTests (now (map .entry))) (succeeded 0 0) ⌝ }
+{
+    check_parts(map, true)
+}
+
+// The check of a map whose links are not made yet.
+pub fn check_unchained(map: &[u8]) -> Check
+    ensures { λ r. ⌜ toldCheck r ≡ firstOf (chainingTests (now (map .entry))) (succeeded 0 0) ⌝ }
+{
+    check_parts(map, false)
 }

@@ -158,3 +158,8 @@ refuses (t ∷ ts) why e rest success = at (t .place) refl (λ e. refuses ts why
 pub tried : (ts : List Test) (answer : Check) → Numbered ts → toldCheck answer ≡ firstOf ts (succeeded 0 0) → Tried ts answer
 tried ts Check.Passed from-1 e = none-fitted ts (succeeded 0 0) from-1 (sym (ap (λ (r : Reply). r .number) e))
 tried ts (Check.Refused why) from-1 e = refuses ts why (sym e)
+
+-- the first refusal that fits is said
+pub stops-at : (t : Test) (ts : List Test) (success : Reply) {place : ℕ} → t .place ≡ some place → firstOf (t ∷ ts) success ≡ refusedAt (t .number) place
+unfolding firstOf
+stops-at t ts success e = rw e
