@@ -1,0 +1,129 @@
+-- An order passes exactly when its length is 40 and its words keep the rules; the facts that later layers use. Assumes nothing.
+use mathlib.Core.Path.{_≡_, refl, subst}
+use mathlib.Core.Bool.{true, false}
+use mathlib.Core.List.{List, [], _∷_, _++_}
+use mathlib.Core.Logic.{⊎-elim}
+use mathlib.Core.Option.{Option, none, some}
+use Prim.Native.Nat.{ℕ, _≤_}
+use native.Mathlib.Omega.{arith}
+use lib.Dec.{lit≤, eqb}
+use lib.ListN.{length}
+use borrow.Author.Tests.{le-leb, leb-true, eq-eqb, eqb-true}
+use Rattle.replies.specs.declared.Check.{Check}
+use Rattle.replies.specs.Told.{succeeded, toldCheck}
+use Rattle.replies.specs.First.{firstOf, NoneFits, Tried}
+use Rattle.replies.proofs.First.{cases, Numbered, tried}
+use Rattle.driving.specs.declared.Order.{Order}
+use Rattle.driving.specs.declared.Figures.{Figures}
+use Rattle.driving.specs.declared.Rules.{Rules}
+use Rattle.driving.specs.Order.{Rule, firstBroken, europeanRules, limitRules, endRules, figureRules, badOrder, badRules, badFigures, badTrip, orderOf, orderTests}
+use Rattle.driving.specs.Accepted.{SoundRules, SoundFigures, AcceptedOrder}
+
+-- every rule of the list is kept
+abbrev pub AllKept : List Rule → Type 0
+AllKept [] = Unit {0}
+AllKept (r ∷ rs) = (r .kept ≡ true) × AllKept rs
+
+some-not-none : {w : ℕ} → _≡_ {A = Option ℕ} (some w) none → ⊥
+some-not-none e = let z : _≡_ {A = ℕ} 0 1 = cc in omega arith
+
+pub all-kept : (rs : List Rule) → firstBroken rs ≡ none → AllKept rs
+unfolding firstBroken
+all-kept [] e = tt
+all-kept (r ∷ rs) e =
+    ⊎-elim
+    (λ (kept : r .kept ≡ true). (kept, all-kept rs (simp kept at e)))
+    (λ (broken : r .kept ≡ false). absurd (some-not-none (simp broken at e)))
+    (cases (r .kept))
+
+pub none-broken : (rs : List Rule) → AllKept rs → firstBroken rs ≡ none
+unfolding firstBroken
+none-broken [] all = refl
+none-broken (r ∷ rs) all = simp (all .0) (none-broken rs (all .1))
+
+-- refusal 10 does not fit exactly the sound rules
+pub rules-sound : (r : Rules) → badRules r ≡ none → SoundRules r
+unfolding badRules
+rules-sound r e =
+    let k = all-kept (limitRules r) e in
+    record {
+      spell-limit-low = leb-true _ _ (k .0);
+      break-low = leb-true _ _ (k .1 .0);
+      limits-rise = leb-true _ _ (k .1 .1 .0);
+      shift-limit-high = leb-true _ _ (k .1 .1 .1 .0);
+      pauses-rise = leb-true _ _ (k .1 .1 .1 .1 .0);
+      rest-high = leb-true _ _ (k .1 .1 .1 .1 .1 .0);
+    }
+
+pub sound-rules-pass : (r : Rules) → SoundRules r → badRules r ≡ none
+unfolding badRules
+sound-rules-pass r s =
+    none-broken (limitRules r)
+    (le-leb _ _ (s .spell-limit-low), (le-leb _ _ (s .break-low), (le-leb _ _ (s .limits-rise), (le-leb _ _ (s .shift-limit-high), (le-leb _ _ (s .pauses-rise), (le-leb _ _ (s .rest-high), tt))))))
+
+pub european-sound : SoundRules europeanRules
+european-sound =
+    record { spell-limit-low = lit≤ tt; limits-rise = lit≤ tt; shift-limit-high = lit≤ tt; break-low = lit≤ tt; pauses-rise = lit≤ tt; rest-high = lit≤ tt }
+
+pub figures-sound : (f : Figures) (r : Rules) → badFigures f r ≡ none → SoundFigures f r
+unfolding badFigures
+figures-sound f r e =
+    let k = all-kept (figureRules f r) e in
+    record { spell-high = leb-true _ _ (k .0); figures-rise = leb-true _ _ (k .1 .0); shift-high = leb-true _ _ (k .1 .1 .0) }
+
+pub sound-figures-pass : (f : Figures) (r : Rules) → SoundFigures f r → badFigures f r ≡ none
+unfolding badFigures
+sound-figures-pass f r s =
+    none-broken (figureRules f r) (le-leb _ _ (s .spell-high), (le-leb _ _ (s .figures-rise), (le-leb _ _ (s .shift-high), tt)))
+
+-- refusals 10 and 11 do not fit exactly the orders whose words keep every rule
+pub order-sound : (junctions : ℕ) (o : Order) → badRules (o .rules) ≡ none → badTrip junctions o ≡ none → AcceptedOrder junctions o
+unfolding badTrip
+order-sound junctions o e10 e11 =
+    let k = all-kept (endRules junctions o ++ figureRules (o .figures) (o .rules)) e11 in
+    record {
+      source-low = leb-true _ _ (k .0);
+      source-high = leb-true _ _ (k .1 .0);
+      target-low = leb-true _ _ (k .1 .1 .0);
+      target-high = leb-true _ _ (k .1 .1 .1 .0);
+      times-rise = leb-true _ _ (k .1 .1 .1 .1 .0);
+      latest-high = leb-true _ _ (k .1 .1 .1 .1 .1 .0);
+      sound-figures =
+          record {
+            spell-high = leb-true _ _ (k .1 .1 .1 .1 .1 .1 .0);
+            figures-rise = leb-true _ _ (k .1 .1 .1 .1 .1 .1 .1 .0);
+            shift-high = leb-true _ _ (k .1 .1 .1 .1 .1 .1 .1 .1 .0);
+          };
+      sound-rules = rules-sound (o .rules) e10;
+    }
+
+pub sound-trip-passes : (junctions : ℕ) (o : Order) → AcceptedOrder junctions o → badTrip junctions o ≡ none
+unfolding badTrip
+sound-trip-passes junctions o s =
+    none-broken (endRules junctions o ++ figureRules (o .figures) (o .rules))
+    (le-leb _ _ (s .source-low), (le-leb _ _ (s .source-high), (le-leb _ _ (s .target-low), (le-leb _ _ (s .target-high), (le-leb _ _ (s .times-rise), (le-leb _ _ (s .latest-high), (le-leb _ _ (s .sound-figures .spell-high), (le-leb _ _ (s .sound-figures .figures-rise), (le-leb _ _ (s .sound-figures .shift-high), tt)))))))))
+
+-- the refusals of the order check number from 1, as `none-fitted` asks
+pub order-numbered : (junctions : ℕ) (bytes : List ℕ) → Numbered (orderTests junctions bytes)
+order-numbered junctions bytes = (lit≤ tt, (lit≤ tt, (lit≤ tt, tt)))
+
+pub order-length : (bytes : List ℕ) → badOrder bytes ≡ none → length bytes ≡ 40
+order-length bytes e =
+    ⊎-elim
+    (λ (same : eqb (length bytes) 40 ≡ true). eqb-true _ _ same)
+    (λ (other : eqb (length bytes) 40 ≡ false). absurd (some-not-none (simp other at e)))
+    (cases (eqb (length bytes) 40))
+
+-- the order check passes exactly the orders of 40 bytes whose words keep every rule
+pub order-accepted : (junctions : ℕ) (bytes : List ℕ) → NoneFits (orderTests junctions bytes) → AcceptedOrder junctions (orderOf bytes)
+order-accepted junctions bytes passed = order-sound junctions (orderOf bytes) (passed .1 .0) (passed .1 .1 .0)
+
+pub accepted-passes : (junctions : ℕ) (bytes : List ℕ) → length bytes ≡ 40 → AcceptedOrder junctions (orderOf bytes) → NoneFits (orderTests junctions bytes)
+accepted-passes junctions bytes long s =
+    (simp (eq-eqb (length bytes) 40 long), (sound-rules-pass (orderOf bytes .rules) (s .sound-rules), (sound-trip-passes junctions (orderOf bytes) s, tt)))
+
+-- what a caller knows where the order check has passed
+pub checked-order : (junctions : ℕ) (bytes : List ℕ) (r : Check) → r ≡ Check.Passed → toldCheck r ≡ firstOf (orderTests junctions bytes) (succeeded 0 0) → (length bytes ≡ 40) × AcceptedOrder junctions (orderOf bytes)
+checked-order junctions bytes r passed told =
+    let none-fits = subst (Tried (orderTests junctions bytes)) passed (tried (orderTests junctions bytes) r (order-numbered junctions bytes) told) in
+    (order-length bytes (none-fits .0), order-accepted junctions bytes none-fits)

@@ -1,0 +1,5 @@
+-- The laws of the order check that callers cite.
+pub mod Accepted
+pub mod Broken
+pub mod Lowest
+pub mod Then

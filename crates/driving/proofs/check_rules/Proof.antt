@@ -1,0 +1,26 @@
+-- The rules are those of the definition, in its order.
+use mathlib.Core.Path.{refl}
+use borrow.Author.Needs.{needs}
+use Rattle.replies.specs.declared.Refusal.the-variants.{BadRules}
+use Rattle.driving.specs.Order.{limitRules, badRules}
+use Rattle.driving.proofs.Broken.{told-ruled}
+use Rattle.driving.proofs.check_rules.Statement.{statement}
+use Rattle.driving.proofs.check_rules.Tie as tie
+
+returns : tie.Need-returns
+unfolding badRules
+returns c =
+    let a = c .before .before .before .before .before .before .args in
+    simp (c .ruled6 .ensures, c .before .ruled5 .ensures, c .before .before .ruled4 .ensures, c .before .before .before .ruled3 .ensures, c .before .before .before .before .ruled2 .ensures, c .before .before .before .before .before .ruled .ensures) (told-ruled 10 BadRules (limitRules (a .rules)) (λ w. refl))
+
+pub check-rules-spec : {M : Type 1} → statement M
+check-rules-spec =
+    tie.close
+    (tie.spec
+    (λ c κs. search needs)
+    (λ c κs. search needs)
+    (λ c κs. search needs)
+    (λ c κs. search needs)
+    (λ c κs. search needs)
+    (λ c κs. search needs)
+    returns)

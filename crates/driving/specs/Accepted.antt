@@ -1,0 +1,31 @@
+-- What holds of the numbers of an accepted order. Assumes nothing.
+use Prim.Native.Nat.{ℕ, _≤_}
+use Rattle.driving.specs.declared.Order.{Order}
+use Rattle.driving.specs.declared.Figures.{Figures}
+use Rattle.driving.specs.declared.Rules.{Rules}
+
+-- 1 ≤ spell limit ≤ shift limit ≤ 1,000,000 and 1 ≤ break ≤ rest ≤ 1,000,000
+pub record SoundRules (r : Rules) : Type 0 where
+  pub spell-limit-low : 1 ≤ r .«spell_limit» .0
+  pub limits-rise : r .«spell_limit» .0 ≤ r .«shift_limit» .0
+  pub shift-limit-high : r .«shift_limit» .0 ≤ 1000000
+  pub break-low : 1 ≤ r .«break_time» .0
+  pub pauses-rise : r .«break_time» .0 ≤ r .«rest_time» .0
+  pub rest-high : r .«rest_time» .0 ≤ 1000000
+
+-- spell is at most its limit and at most shift, and shift at most its limit
+pub record SoundFigures (f : Figures) (r : Rules) : Type 0 where
+  pub spell-high : f .spell .0 ≤ r .«spell_limit» .0
+  pub figures-rise : f .spell .0 ≤ f .shift .0
+  pub shift-high : f .shift .0 ≤ r .«shift_limit» .0
+
+-- with these, source and target are 1 to J, and departure ≤ latest ≤ 2,000,000,000
+pub record AcceptedOrder (junctions : ℕ) (o : Order) : Type 0 where
+  pub source-low : 1 ≤ o .source
+  pub source-high : o .source ≤ junctions
+  pub target-low : 1 ≤ o .target
+  pub target-high : o .target ≤ junctions
+  pub times-rise : o .departure .0 ≤ o .latest .0
+  pub latest-high : o .latest .0 ≤ 2000000000
+  pub sound-figures : SoundFigures (o .figures) (o .rules)
+  pub sound-rules : SoundRules (o .rules)

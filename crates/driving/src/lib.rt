@@ -1,0 +1,186 @@
+// The driver's rules, the order, and the order check: refusals 9 to 11.
+ghost use mathlib.Core.Path.{_≡_};
+ghost use mathlib.Core.List.{[], _∷_};
+ghost use lib.ListN.{length};
+ghost use Rattle.replies.specs.Told.{succeeded, toldCheck};
+ghost use Rattle.replies.specs.First.{_at_, firstOf};
+ghost use Rattle.driving.specs.Steps.{firstRefused, ruledBy};
+ghost use Rattle.driving.specs.Order.{europeanRules, orderOf, badRules, badEnds, badFigures, badTrip, orderTests};
+use replies::Check;
+use replies::Refusal;
+use seconds::Clock;
+use seconds::Wheel;
+
+// How long the driver may be at the wheel, and how long the pauses are that allow more.
+pub struct Rules {
+    pub spell_limit: Wheel,
+    pub break_time: Clock,
+    pub shift_limit: Wheel,
+    pub rest_time: Clock,
+}
+
+impl Rules {
+    // The European figures.
+    pub const EUROPEAN_SPELL_LIMIT: Wheel = Wheel(16200);
+
+    pub const EUROPEAN_BREAK_TIME: Clock = Clock(2700);
+
+    pub const EUROPEAN_SHIFT_LIMIT: Wheel = Wheel(32400);
+
+    pub const EUROPEAN_REST_TIME: Clock = Clock(39600);
+
+    pub fn european() -> Rules
+        ensures { λ r. ⌜ r ≡ europeanRules ⌝ }
+    {
+        Rules {
+            spell_limit: Rules::EUROPEAN_SPELL_LIMIT,
+            break_time: Rules::EUROPEAN_BREAK_TIME,
+            shift_limit: Rules::EUROPEAN_SHIFT_LIMIT,
+            rest_time: Rules::EUROPEAN_REST_TIME,
+        }
+    }
+}
+
+// Wheel time since the last pause of any kind, and since the last rest.
+pub struct Figures {
+    pub spell: Wheel,
+    pub shift: Wheel,
+}
+
+// What one trip asks, and the rules that it is driven by.
+pub struct Order {
+    pub source: u32,
+    pub target: u32,
+    pub departure: Clock,
+    pub latest: Clock,
+    pub figures: Figures,
+    pub rules: Rules,
+}
+
+fn read_figures(bytes: &[u8]) -> Figures
+    requires { ⌜ length (now bytes) ≡ 40 ⌝ }
+    ensures { λ r. ⌜ r ≡ orderOf (now (bytes .entry)) .figures ⌝ }
+{
+    Figures {
+        spell: Wheel(words::word(bytes, 16)),
+        shift: Wheel(words::word(bytes, 20)),
+    }
+}
+
+fn read_rules(bytes: &[u8]) -> Rules
+    requires { ⌜ length (now bytes) ≡ 40 ⌝ }
+    ensures { λ r. ⌜ r ≡ orderOf (now (bytes .entry)) .rules ⌝ }
+{
+    Rules {
+        spell_limit: Wheel(words::word(bytes, 24)),
+        break_time: Clock(words::word(bytes, 28)),
+        shift_limit: Wheel(words::word(bytes, 32)),
+        rest_time: Clock(words::word(bytes, 36)),
+    }
+}
+
+// The order that its forty bytes spell.
+pub fn read_order(bytes: &[u8]) -> Order
+    requires { ⌜ length (now bytes) ≡ 40 ⌝ }
+    ensures { λ r. ⌜ r ≡ orderOf (now (bytes .entry)) ⌝ }
+{
+    Order {
+        source: words::word(bytes, 0),
+        target: words::word(bytes, 4),
+        departure: Clock(words::word(bytes, 8)),
+        latest: Clock(words::word(bytes, 12)),
+        figures: read_figures(bytes),
+        rules: read_rules(bytes),
+    }
+}
+
+// The first check's refusal, or else what the next one says.
+fn first_refused(first: Check, next: Check) -> Check
+    ensures { λ r. ⌜ r ≡ firstRefused first next ⌝ }
+{
+    match first {
+        Check::Passed => next,
+        Check::Refused(why) => Check::Refused(why),
+    }
+}
+
+// The check so far, and one rule more: each rule is one ≤ sign, with the word that it is charged to.
+fn ruled(before: Check, kept: bool, why: Refusal) -> Check
+    ensures { λ r. ⌜ r ≡ ruledBy before kept why ⌝ }
+{
+    if kept {
+        before
+    } else {
+        first_refused(before, Check::Refused(why))
+    }
+}
+
+// The rules alone: words 6 to 9 of an order, or rules that stand in none.
+pub fn check_rules(rules: Rules) -> Check
+    ensures { λ r. ⌜ toldCheck r ≡ firstOf ((10 at badRules rules) ∷ []) (succeeded 0 0) ⌝ }
+{
+    let spell_limit = rules.spell_limit.0;
+    let break_time = rules.break_time.0;
+    let shift_limit = rules.shift_limit.0;
+    let rest_time = rules.rest_time.0;
+    let check = ruled(Check::Passed, 1 <= spell_limit, Refusal::BadRules(6));
+    let check = ruled(check, 1 <= break_time, Refusal::BadRules(7));
+    let check = ruled(check, spell_limit <= shift_limit, Refusal::BadRules(8));
+    let check = ruled(check, shift_limit <= 1000000, Refusal::BadRules(8));
+    let check = ruled(check, break_time <= rest_time, Refusal::BadRules(9));
+    ruled(check, rest_time <= 1000000, Refusal::BadRules(9))
+}
+
+// The trip's ends, words 0 to 3 of an order, on a map of so many junctions.
+fn check_ends(order: Order, junctions: u32) -> Check
+    ensures { λ r. ⌜ toldCheck r ≡ firstOf ((11 at badEnds junctions order) ∷ []) (succeeded 0 0) ⌝ }
+{
+    let source = order.source;
+    let target = order.target;
+    let departure = order.departure.0;
+    let latest = order.latest.0;
+    let check = ruled(Check::Passed, 1 <= source, Refusal::BadTrip(0));
+    let check = ruled(check, source <= junctions, Refusal::BadTrip(0));
+    let check = ruled(check, 1 <= target, Refusal::BadTrip(1));
+    let check = ruled(check, target <= junctions, Refusal::BadTrip(1));
+    let check = ruled(check, departure <= latest, Refusal::BadTrip(3));
+    ruled(check, latest <= 2000000000, Refusal::BadTrip(3))
+}
+
+// Starting figures against rules: words 4 and 5 of an order, or figures that stand in none.
+pub fn check_figures(figures: Figures, rules: Rules) -> Check
+    ensures { λ r. ⌜ toldCheck r ≡ firstOf ((11 at badFigures figures rules) ∷ []) (succeeded 0 0) ⌝ }
+{
+    let spell = figures.spell.0;
+    let shift = figures.shift.0;
+    let spell_limit = rules.spell_limit.0;
+    let shift_limit = rules.shift_limit.0;
+    let check = ruled(Check::Passed, spell <= spell_limit, Refusal::BadTrip(4));
+    let check = ruled(check, spell <= shift, Refusal::BadTrip(5));
+    ruled(check, shift <= shift_limit, Refusal::BadTrip(5))
+}
+
+// The trip: words 0 to 5.
+pub fn check_trip(order: Order, junctions: u32) -> Check
+    ensures { λ r. ⌜ toldCheck r ≡ firstOf ((11 at badTrip junctions order) ∷ []) (succeeded 0 0) ⌝ }
+{
+    let figures = order.figures;
+    let rules = order.rules;
+    let ends_check = check_ends(order, junctions);
+    let figures_check = check_figures(figures, rules);
+    first_refused(ends_check, figures_check)
+}
+
+// The order check, on a map of so many junctions.
+pub fn check_order(bytes: &[u8], junctions: u32) -> Check
+    ensures { λ r. ⌜ toldCheck r ≡ firstOf (orderTests junctions (now (bytes .entry))) (succeeded 0 0) ⌝ }
+{
+    if bytes.len() != 40 {
+        return Check::Refused(Refusal::BadOrder(bytes.len()));
+    }
+    let order = read_order(bytes);
+    let rules = order.rules;
+    let rules_check = check_rules(rules);
+    let trip_check = check_trip(order, junctions);
+    first_refused(rules_check, trip_check)
+}
