@@ -1,0 +1,199 @@
+-- The lists of the labels at a junction: the walk along them, and what a new label leaves. Assumes nothing.
+use mathlib.Core.Path.{_≡_, _∙_, refl, sym, ap, subst}
+use mathlib.Core.List.{List}
+use mathlib.Core.Logic.{_⊎_, ⊎-elim, inl, inr}
+use Prim.Native.Nat.{ℕ, _+_, _*_, _≤_, _<_}
+use native.Mathlib.Omega.{arith}
+use native.Mathlib.Nat.{le-refl}
+use native.Mathlib.Decide.{decLe, ℕ-discrete}
+use lib.ListN.{length, getD, set, length-set}
+use lib.Seq.{getD-set-same, getD-set-other}
+use Rattle.labels.specs.declared.Label.{Label}
+use Rattle.labels.specs.Run.{stride, largestWord, junctionField, spellField, shiftField, parentField, winnerField, at, field, junctionOf, previousOf, labelAt, settled, Same, SameLabels, Added}
+use Rattle.labels.specs.Lists.{Covers, Covered, Last, Heads, LeastAt, Leasts, Lists, Lowered}
+use Rattle.labels.proofs.Run.{settled-mem, mem-settled, kept-field, kept-labels, set-labels}
+
+-- no label: no head, and nothing lowered
+pub lists-none :
+    (ws hs ss fs : List ℕ) (size : ℕ) → length hs ≡ size → length ss ≡ size → length fs ≡ size → ((j : ℕ) → j < size → getD hs j 0 ≡ 0)
+    → ((j : ℕ) → j < size → getD ss j 0 ≡ largestWord) → ((j : ℕ) → j < size → getD fs j 0 ≡ largestWord) → Lists ws hs ss fs 0
+lists-none ws hs ss fs size lh ls lf heads spells shifts = record {
+  room = omega arith;
+  chain = λ k low high. absurd (omega arith);
+  heads = λ j h. rw (heads j (omega arith)) (record { below = omega arith; same = λ p. absurd (omega arith); skip = λ m a b e. omega arith });
+  spells = least ss spellField ls spells;
+  shifts = least fs shiftField lf shifts;
+  as-many-spells = cc;
+  as-many-shifts = cc;
+}
+  where
+    least : (ls : List ℕ) (f : ℕ) → length ls ≡ size → ((j : ℕ) → j < size → getD ls j 0 ≡ largestWord) → Leasts f ws ls 0
+    least ls f l all j h = rw (all j (omega arith)) (record { below = λ k low high e. absurd (omega arith); reached = λ p. absurd (omega arith) })
+
+-- Where the labels stay as they were, so do their lists.
+module _ (ws ws′ : List ℕ) (n : ℕ) (junctions : Same junctionField ws ws′ n) where
+  last-same : (b j p : ℕ) → b ≤ n + 1 → Last ws b j p → Last ws′ b j p
+  last-same b j p h L = record {
+    below = L .below;
+    same = λ q. junctions p q (omega (arith, L .below)) ∙ L .same q;
+    skip = λ m a c e. L .skip m a c (sym (junctions m (omega arith) (omega arith)) ∙ e);
+  }
+
+  least-same : (f j v : ℕ) → Same f ws ws′ n → LeastAt f ws n j v → LeastAt f ws′ n j v
+  least-same f j v same L = record {
+    below = λ k low high e. rw (same k low high) (L .below k low high (sym (junctions k low high) ∙ e));
+    reached = λ h. let t = L .reached h in (t .0, t .1, t .2, junctions (t .0) (t .1) (t .2) ∙ t .3, same (t .0) (t .1) (t .2) ∙ t .4);
+  }
+
+pub lists-same : {ws ws′ hs ss fs : List ℕ} {n : ℕ} → SameLabels ws ws′ n → stride * n ≤ length ws′ → Lists ws hs ss fs n → Lists ws′ hs ss fs n
+lists-same {ws} {ws′} {n} S room L = record {
+  room = room;
+  chain = λ k low high. rw (S .junctions k low high, S .previous k low high) (last-same ws ws′ n (S .junctions) k _ _ (omega arith) (L .chain k low high));
+  heads = λ j h. last-same ws ws′ n (S .junctions) (n + 1) j _ (le-refl _) (L .heads j h);
+  spells = λ j h. least-same ws ws′ n (S .junctions) spellField j _ (S .spells) (L .spells j h);
+  shifts = λ j h. least-same ws ws′ n (S .junctions) shiftField j _ (S .shifts) (L .shifts j h);
+  as-many-spells = L .as-many-spells;
+  as-many-shifts = L .as-many-shifts;
+}
+
+pub lists-set :
+    {ws hs ss fs : List ℕ} (k f v : ℕ) {n : ℕ} → parentField ≤ f → f ≤ winnerField → Lists ws hs ss fs n → Lists (set ws (at k f) v) hs ss fs n
+lists-set {ws} k f v {n} a b L = lists-same (set-labels ws k f v n a b) (simp length-set (L .room)) L
+
+-- The walk along a junction's labels: none after k covers the label.
+pub record Past (ws : List ℕ) (n : ℕ) (label : Label) (k : ℕ) : Type 0 where
+  pub high : k ≤ n
+  pub here : 1 ≤ k → label .junction ≡ junctionOf ws k
+  pub none : (m : ℕ) → k < m → m ≤ n → Covers (labelAt ws m) label → ⊥
+
+pub covered-by : (ws : List ℕ) (n k : ℕ) (label : Label) → 1 ≤ k → k ≤ n → Covers (labelAt ws k) label → Covered (settled ws n) label
+covered-by ws n k label low high C = (labelAt ws k, settled-mem ws n k low high, C)
+
+-- what no label of 1 .. n covers is not covered
+pub not-covered :
+    (ws : List ℕ) (n : ℕ) (label : Label) → ((k : ℕ) → 1 ≤ k → k ≤ n → Covers (labelAt ws k) label → ⊥) → Covered (settled ws n) label → ⊥
+not-covered ws n label none C =
+    let N = mem-settled ws n (C .0) (C .1) in
+    none (N .k) (N .low) (N .high) (subst (λ a. Covers a label) (N .is) (C .2))
+
+module _ {ws hs ss fs : List ℕ} {n : ℕ} (label : Label) (L : Lists ws hs ss fs n) (known : label .junction < length hs) where
+  pub least-spell-above : label .spell < getD ss (label .junction) 0 → Covered (settled ws n) label → ⊥
+  least-spell-above h =
+      not-covered ws n label (λ k low high C. omega (arith, C .spell, L .spells (label .junction) (omega (arith, L .as-many-spells)) .below k low high (C .here)))
+
+  pub least-shift-above : label .shift < getD fs (label .junction) 0 → Covered (settled ws n) label → ⊥
+  least-shift-above h =
+      not-covered ws n label (λ k low high C. omega (arith, C .shift, L .shifts (label .junction) (omega (arith, L .as-many-shifts)) .below k low high (C .here)))
+
+  pub walk-first : Past ws n label (getD hs (label .junction) 0)
+  walk-first =
+      let H = L .heads (label .junction) known in
+      record { high = omega (arith, H .below); here = λ p. sym (H .same p); none = λ m a b C. H .skip m a (omega arith) (C .here) }
+
+  pub walk-falls : (k : ℕ) → 1 ≤ k → k ≤ n → previousOf ws k < k
+  walk-falls k low high = L .chain k low high .below
+
+  pub walk-step : (k : ℕ) → 1 ≤ k → Past ws n label k → (Covers (labelAt ws k) label → ⊥) → Past ws n label (previousOf ws k)
+  walk-step k low P not-k = record {
+    high = omega (arith, H .below, P .high);
+    here = λ p. P .here low ∙ sym (H .same p);
+    none = λ m a b C. go m a b C (ℕ-discrete m k) (decLe m k);
+  }
+    where
+      H : Last ws k (junctionOf ws k) (previousOf ws k)
+      H = L .chain k low (P .high)
+
+      go : (m : ℕ) → previousOf ws k < m → m ≤ n → Covers (labelAt ws m) label → Dec (m ≡ k) → Dec (m ≤ k) → ⊥
+      go m a b C (yes e) d = not-k (subst (λ x. Covers (labelAt ws x) label) e C)
+      go m a b C (no e) (yes d) = H .skip m a (omega arith) (C .here ∙ P .here low)
+      go m a b C (no e) (no d) = P .none m (omega arith) b C
+
+pub walk-end : {ws : List ℕ} {n k : ℕ} {label : Label} → Past ws n label k → k ≤ 0 → Covered (settled ws n) label → ⊥
+walk-end {ws} {n} {label} P h = not-covered ws n label (λ m low high. P .none m (omega arith) high)
+
+-- Lowering.
+pub lowered : (ls : List ℕ) (j v : ℕ) → j < length ls → v < getD ls j 0 → Lowered ls (set ls j v) j v
+lowered ls j v h less =
+    let e = getD-set-same ls j v 0 h in
+    record { others = λ i differs. getD-set-other ls j i v 0 differs; new = omega arith; old = omega arith; one = inl e }
+
+pub low-already : {ls : List ℕ} {j v : ℕ} → getD ls j 0 ≤ v → Lowered ls ls j v
+low-already h = record { others = λ i differs. refl; new = h; old = le-refl _; one = inr refl }
+
+-- A new label.
+upto : (P : ℕ → Type 0) (n : ℕ) → ((k : ℕ) → 1 ≤ k → k ≤ n → P k) → P (n + 1) → (k : ℕ) → 1 ≤ k → k ≤ n + 1 → P k
+upto P n f g k a b = go (decLe k n)
+  where
+    go : Dec (k ≤ n) → P k
+    go (yes h) = f k a h
+    go (no h) = let e : n + 1 ≡ k = omega arith in subst P e g
+
+module _ {ws ws′ : List ℕ} {n : ℕ} {label : Label} {parent cursor : ℕ} (A : Added ws ws′ n label parent cursor) where
+  at-new : junctionOf ws′ (n + 1) ≡ label .junction
+  at-new = ap (λ (a : Label). a .junction) (A .is-label)
+
+  junctions-kept : Same junctionField ws ws′ n
+  junctions-kept = kept-field ws ws′ n (A .kept) junctionField (omega arith)
+
+  heads-added : (hs : List ℕ) → Heads ws hs n → label .junction < length hs → Heads ws′ (set hs (label .junction) (n + 1)) (n + 1)
+  heads-added hs H known j h = go (ℕ-discrete j (label .junction))
+    where
+      go : Dec (j ≡ label .junction) → Last ws′ (n + 1 + 1) j (getD (set hs (label .junction) (n + 1)) j 0)
+      go (yes e) =
+          rw (e, getD-set-same hs (label .junction) (n + 1) 0 known)
+          (record { below = omega arith; same = λ p. at-new; skip = λ m a b c. omega arith })
+      go (no e) =
+          rw (getD-set-other hs (label .junction) j (n + 1) 0 e)
+          (let K = last-same ws ws′ n junctions-kept (n + 1) j _ (le-refl _) (H j (omega (arith, length-set hs (label .junction) (n + 1)))) in
+          record {
+            below = omega (arith, K .below);
+            same = K .same;
+            skip = λ m a b c. upto (λ k. getD hs j 0 < k → junctionOf ws′ k ≡ j → ⊥) n (λ k low high q r. K .skip k q (omega arith) r) (λ q r. e (sym r ∙ at-new)) m (omega arith) (omega arith) a c;
+          })
+
+  least-added :
+      (f : ℕ) (ls ls′ : List ℕ) (v : ℕ) → f < stride → Leasts f ws ls n → field ws′ (n + 1) f ≡ v → Lowered ls ls′ (label .junction) v → length ls′ ≡ length ls
+      → Leasts f ws′ ls′ (n + 1)
+  least-added f ls ls′ v small L new W same j h = go (ℕ-discrete j (label .junction))
+    where
+      K : LeastAt f ws′ n j (getD ls j 0)
+      K = least-same ws ws′ n junctions-kept f j _ (kept-field ws ws′ n (A .kept) f small) (L j (omega arith))
+
+      go : Dec (j ≡ label .junction) → LeastAt f ws′ (n + 1) j (getD ls′ j 0)
+      go (no e) =
+          rw (W .others j e)
+          (record {
+            below = upto (λ k. junctionOf ws′ k ≡ j → getD ls j 0 ≤ field ws′ k f) n (K .below) (λ r. absurd (e (sym r ∙ at-new)));
+            reached = λ p. let t = K .reached p in (t .0, t .1, omega (arith, t .2), t .3, t .4);
+          })
+      go (yes e) = record {
+        below = upto (λ k. junctionOf ws′ k ≡ j → getD ls′ j 0 ≤ field ws′ k f) n (λ k low high r. omega (arith, old, K .below k low high r)) (λ r. omega (arith, at-j));
+        reached = λ p.
+            ⊎-elim (λ q. (n + 1, omega arith, le-refl _, at-new ∙ sym e, new ∙ sym q))
+            (λ q. let t = K .reached (omega arith) in (t .0, t .1, omega (arith, t .2), t .3, t .4 ∙ sym q))
+            is-one;
+      }
+        where
+          at-j : getD ls′ j 0 ≤ v
+          at-j = rw e (W .new)
+
+          old : getD ls′ j 0 ≤ getD ls j 0
+          old = rw e (W .old)
+
+          is-one : (getD ls′ j 0 ≡ v) ⊎ (getD ls′ j 0 ≡ getD ls j 0)
+          is-one = rw e (W .one)
+
+  pub lists-added :
+      {hs ss ss′ fs fs′ : List ℕ} → Lists ws hs ss fs n → label .junction < length hs → stride * (n + 1) ≤ length ws′
+      → previousOf ws′ (n + 1) ≡ getD hs (label .junction) 0
+      → Lowered ss ss′ (label .junction) (label .spell) → length ss′ ≡ length ss
+      → Lowered fs fs′ (label .junction) (label .shift) → length fs′ ≡ length fs → Lists ws′ (set hs (label .junction) (n + 1)) ss′ fs′ (n + 1)
+  lists-added {hs} {ss} {ss′} {fs} {fs′} L known room link S same-ss F same-fs = record {
+    room = room;
+    chain = upto (λ k. Last ws′ k (junctionOf ws′ k) (previousOf ws′ k)) n (lists-same (kept-labels ws ws′ n (A .kept)) (omega arith) L .chain) (rw (at-new, link) (last-same ws ws′ n junctions-kept (n + 1) _ _ (le-refl _) (L .heads _ known)));
+    heads = heads-added hs (L .heads) known;
+    spells = least-added spellField ss ss′ (label .spell) (omega arith) (L .spells) (ap (λ (a : Label). a .spell) (A .is-label)) S same-ss;
+    shifts = least-added shiftField fs fs′ (label .shift) (omega arith) (L .shifts) (ap (λ (a : Label). a .shift) (A .is-label)) F same-fs;
+    as-many-spells = omega (arith, same-ss, L .as-many-spells, length-set hs (label .junction) (n + 1));
+    as-many-shifts = omega (arith, same-fs, L .as-many-shifts, length-set hs (label .junction) (n + 1));
+  }

@@ -1,0 +1,218 @@
+-- Words of the label run after a store, and the labels as a list. Assumes nothing.
+use mathlib.Core.Path.{_≡_, _∙_, refl, sym, ap, ap₂}
+use mathlib.Core.List.{List, [], _∷_, _++_, List·Memᴰ, List·Memᴰ·head, List·Memᴰ·append-cases, List·Memᴰ·eq-of-singleton, List·Memᴰ·not-nil, Memᴰ·append-left, Memᴰ·append-right}
+use mathlib.Core.Logic.{_⊎_, ⊎-elim}
+use Prim.Native.Nat.{ℕ, zero, suc, _+_, _-_, _*_, _≤_, _<_}
+use native.Mathlib.Omega.{arith}
+use native.Mathlib.Nat.{add-zero}
+use native.Mathlib.Numerals.{add-one}
+use native.Mathlib.Decide.{decLe, ℕ-discrete}
+use lib.ListN.{length, getD, set, length-set, length-append, List·getD-append}
+use lib.Seq.{getD-set-same, getD-set-other, getD-at, ext-getD}
+use Rattle.labels.specs.declared.Label.{Label}
+use Rattle.labels.specs.Run.{stride, junctionField, clockField, spellField, shiftField, parentField, cursorField, winnerField, previousField, at, field, previousOf, labelAt, settled, column, Same, SameLabels, Added, puts}
+
+-- A word that is stored is read, and no other word of the labels changes.
+module _ (ws : List ℕ) (k f v : ℕ) (small : f < stride) where
+  pub set-same : 1 ≤ k → stride * k ≤ length ws → field (set ws (at k f) v) k f ≡ v
+  set-same low room = getD-set-same ws (at k f) v 0 (omega arith)
+
+  pub set-field : (g n : ℕ) → g < stride → (g ≡ f → ⊥) → Same g ws (set ws (at k f) v) n
+  set-field g n b differs m low high = getD-set-other ws (at k f) (at m g) v 0 (λ e. differs (omega arith))
+
+  pub set-label : (m g : ℕ) → 1 ≤ k → 1 ≤ m → (m ≡ k → ⊥) → g < stride → field (set ws (at k f) v) m g ≡ field ws m g
+  set-label m g low low′ differs b = getD-set-other ws (at k f) (at m g) v 0 (λ e. differs (omega arith))
+
+-- a store into a label's parent, cursor or winner leaves the labels
+pub set-labels : (ws : List ℕ) (k f v n : ℕ) → parentField ≤ f → f ≤ winnerField → SameLabels ws (set ws (at k f) v) n
+set-labels ws k f v n a b = record {
+  junctions = set-field ws k f v (omega arith) junctionField n (omega arith) (λ e. omega arith);
+  clocks = set-field ws k f v (omega arith) clockField n (omega arith) (λ e. omega arith);
+  spells = set-field ws k f v (omega arith) spellField n (omega arith) (λ e. omega arith);
+  shifts = set-field ws k f v (omega arith) shiftField n (omega arith) (λ e. omega arith);
+  previous = set-field ws k f v (omega arith) previousField n (omega arith) (λ e. omega arith);
+}
+
+module _ (ws ws′ : List ℕ) (n : ℕ) (kept : (p : ℕ) → p < stride * n → getD ws′ p 0 ≡ getD ws p 0) where
+  -- where all words of labels 1 .. n are as they were, each word of theirs is
+  pub kept-field : (f : ℕ) → f < stride → Same f ws ws′ n
+  kept-field f small k low high = kept (at k f) (omega arith)
+
+  pub kept-labels : SameLabels ws ws′ n
+  kept-labels = record {
+    junctions = kept-field junctionField (omega arith);
+    clocks = kept-field clockField (omega arith);
+    spells = kept-field spellField (omega arith);
+    shifts = kept-field shiftField (omega arith);
+    previous = kept-field previousField (omega arith);
+  }
+
+pub same-label : (ws ws′ : List ℕ) (n : ℕ) → SameLabels ws ws′ n → (k : ℕ) → 1 ≤ k → k ≤ n → labelAt ws′ k ≡ labelAt ws k
+same-label ws ws′ n same k low high =
+    rw (same .junctions k low high, same .clocks k low high, same .spells k low high, same .shifts k low high)
+
+-- The labels as a list.
+pub settled-more : (ws : List ℕ) (n : ℕ) → settled ws (n + 1) ≡ settled ws n ++ (labelAt ws (n + 1) ∷ [])
+unfolding settled
+settled-more ws n = rw (add-one n)
+
+pub settled-length : (ws : List ℕ) (n : ℕ) → length (settled ws n) ≡ n
+unfolding settled
+settled-length ws zero = refl
+settled-length ws (suc n) = length-append (settled ws n) _ ∙ rw (settled-length ws n) (omega arith)
+
+-- a list that grows at its end has at k - 1 what was put there k-th
+grown : {A : Type 0} (l : List A) (a d : A) (k n : ℕ) → length l ≡ n → 1 ≤ k → k ≤ suc n → {b : A} → (k ≤ n → getD l (k - 1) d ≡ b) → (k ≡ suc n → a ≡ b)
+    → getD (l ++ (a ∷ [])) (k - 1) d ≡ b
+grown l a d k n e low high {b} old new = go (decLe k n)
+  where
+    go : Dec (k ≤ n) → getD (l ++ (a ∷ [])) (k - 1) d ≡ b
+    go (yes h) = List·getD-append l (a ∷ []) d (k - 1) (omega arith) ∙ old h
+    go (no h) = getD-at l a [] d (k - 1) (omega arith) ∙ new (omega arith)
+
+pub settled-at : (ws : List ℕ) (n k : ℕ) (d : Label) → 1 ≤ k → k ≤ n → getD (settled ws n) (k - 1) d ≡ labelAt ws k
+unfolding settled
+settled-at ws zero k d low high = absurd (omega arith)
+settled-at ws (suc n) k d low high =
+    grown (settled ws n) (labelAt ws (suc n)) d k n (settled-length ws n) low high (λ h. settled-at ws n k d low h) (λ e. rw e)
+
+pub settled-by-label : (ws ws′ : List ℕ) (n : ℕ) → ((k : ℕ) → 1 ≤ k → k ≤ n → labelAt ws′ k ≡ labelAt ws k) → settled ws′ n ≡ settled ws n
+unfolding settled
+settled-by-label ws ws′ zero same = refl
+settled-by-label ws ws′ (suc n) same =
+    ap₂ (λ (l : List Label) (a : Label). l ++ (a ∷ [])) (settled-by-label ws ws′ n (λ k low high. same k low (omega arith))) (same (suc n) (omega arith) (omega arith))
+
+-- the list does not change where the labels do not
+pub settled-same : (ws ws′ : List ℕ) (n : ℕ) → SameLabels ws ws′ n → settled ws′ n ≡ settled ws n
+settled-same ws ws′ n same = settled-by-label ws ws′ n (same-label ws ws′ n same)
+
+pub settled-set : (ws : List ℕ) (k f v n : ℕ) → parentField ≤ f → f ≤ winnerField → settled (set ws (at k f) v) n ≡ settled ws n
+settled-set ws k f v n a b = settled-same ws _ n (set-labels ws k f v n a b)
+
+pub settled-mem : (ws : List ℕ) (n k : ℕ) → 1 ≤ k → k ≤ n → List·Memᴰ (labelAt ws k) (settled ws n)
+unfolding settled
+settled-mem ws zero k low high = absurd (omega arith)
+settled-mem ws (suc n) k low high = go (decLe k n) (settled-mem ws n k low)
+  where
+    go : Dec (k ≤ n) → (k ≤ n → List·Memᴰ (labelAt ws k) (settled ws n)) → List·Memᴰ (labelAt ws k) (settled ws n ++ (labelAt ws (suc n) ∷ []))
+    go (yes h) before = Memᴰ·append-left _ (before h)
+    go (no h) before = let e : k ≡ suc n = omega arith in Memᴰ·append-right (settled ws n) (List·Memᴰ·head (rw e))
+
+-- label a is the k-th of 1 .. n
+pub record Numbered (ws : List ℕ) (n : ℕ) (a : Label) : Type 0 where
+  pub k : ℕ
+  pub low : 1 ≤ k
+  pub high : k ≤ n
+  pub is : a ≡ labelAt ws k
+
+pub mem-settled : (ws : List ℕ) (n : ℕ) (a : Label) → List·Memᴰ a (settled ws n) → Numbered ws n a
+unfolding settled
+mem-settled ws zero a m = absurd (List·Memᴰ·not-nil m)
+mem-settled ws (suc n) a m =
+    ⊎-elim (λ h. let t = mem-settled ws n a h in record { k = t .k; low = t .low; high = omega arith; is = t .is })
+    (λ h. record { k = suc n; low = omega arith; high = omega arith; is = List·Memᴰ·eq-of-singleton h })
+    (List·Memᴰ·append-cases (settled ws n) m)
+
+-- One word of each label as a list.
+pub column-more : (f : ℕ) (ws : List ℕ) (n : ℕ) → column f ws (n + 1) ≡ column f ws n ++ (field ws (n + 1) f ∷ [])
+unfolding column
+column-more f ws n = rw (add-one n)
+
+pub column-length : (f : ℕ) (ws : List ℕ) (n : ℕ) → length (column f ws n) ≡ n
+unfolding column
+column-length f ws zero = refl
+column-length f ws (suc n) = length-append (column f ws n) _ ∙ rw (column-length f ws n) (omega arith)
+
+pub column-at : (f : ℕ) (ws : List ℕ) (n k d : ℕ) → 1 ≤ k → k ≤ n → getD (column f ws n) (k - 1) d ≡ field ws k f
+unfolding column
+column-at f ws zero k d low high = absurd (omega arith)
+column-at f ws (suc n) k d low high =
+    grown (column f ws n) (field ws (suc n) f) d k n (column-length f ws n) low high (λ h. column-at f ws n k d low h) (λ e. rw e)
+
+pub column-same : (f : ℕ) (ws ws′ : List ℕ) (n : ℕ) → Same f ws ws′ n → column f ws′ n ≡ column f ws n
+unfolding column
+column-same f ws ws′ zero same = refl
+column-same f ws ws′ (suc n) same =
+    ap₂ (λ (l : List ℕ) (a : ℕ). l ++ (a ∷ [])) (column-same f ws ws′ n (λ k low high. same k low (omega arith))) (same (suc n) (omega arith) (omega arith))
+
+-- a store into word f of label k is one into the k-th entry of that column
+pub column-set :
+    (f : ℕ) (ws : List ℕ) (k v n : ℕ) → f < stride → 1 ≤ k → k ≤ n → stride * n ≤ length ws → column f (set ws (at k f) v) n ≡ set (column f ws n) (k - 1) v
+column-set f ws k v n small low high room =
+    ext-getD 0 _ _ (column-length f _ n ∙ sym (length-set (column f ws n) (k - 1) v ∙ column-length f ws n)) (λ i h. go i (omega (arith, column-length f (set ws (at k f) v) n)) (ℕ-discrete i (k - 1)))
+  where
+    there : (i : ℕ) (l : List ℕ) → i < n → getD (column f l n) i 0 ≡ field l (i + 1) f
+    there i l h = let e : i ≡ i + 1 - 1 = omega arith in ap (λ x. getD (column f l n) x 0) e ∙ column-at f l n (i + 1) 0 (omega arith) (omega arith)
+
+    go : (i : ℕ) → i < n → Dec (i ≡ k - 1) → getD (column f (set ws (at k f) v) n) i 0 ≡ getD (set (column f ws n) (k - 1) v) i 0
+    go i h (yes e) =
+        let is-k : i + 1 ≡ k = omega arith in
+        there i _ h
+        ∙ ap (λ x. field (set ws (at k f) v) x f) is-k
+        ∙ set-same ws k f v small low (omega arith)
+        ∙ sym (ap (λ x. getD (set (column f ws n) (k - 1) v) x 0) e ∙ getD-set-same (column f ws n) (k - 1) v 0 (omega (arith, column-length f ws n)))
+    go i h (no e) =
+        there i _ h
+        ∙ set-label ws k f v small (i + 1) f low (omega arith) (λ q. e (omega arith)) small
+        ∙ sym (getD-set-other (column f ws n) (k - 1) i v 0 e ∙ there i ws h)
+
+-- The store of a new label.
+puts-below : (ws : List ℕ) (i f : ℕ) (vs : List ℕ) (p : ℕ) → p < i + f → getD (puts ws i f vs) p 0 ≡ getD ws p 0
+unfolding puts
+puts-below ws i f [] p h = refl
+puts-below ws i f (v ∷ vs) p h = puts-below _ i (f + 1) vs p (omega arith) ∙ getD-set-other ws (i + f) p v 0 (λ e. omega arith)
+
+puts-at : (ws : List ℕ) (i f : ℕ) (vs : List ℕ) (g : ℕ) → i + f + length vs ≤ length ws → g < length vs → getD (puts ws i f vs) (i + f + g) 0 ≡ getD vs g 0
+unfolding puts
+puts-at ws i f [] g b h = absurd (omega arith)
+puts-at ws i f (v ∷ vs) zero b h = rw (add-zero (i + f)) (puts-below _ i (f + 1) vs (i + f) (omega arith) ∙ getD-set-same ws (i + f) v 0 (omega arith))
+puts-at ws i f (v ∷ vs) (suc g) b h =
+    let e : i + f + suc g ≡ i + (f + 1) + g = omega arith in rw e (puts-at _ i (f + 1) vs g (simp length-set (omega arith)) (omega arith))
+
+put-word : (ws : List ℕ) (n : ℕ) (vs : List ℕ) (f : ℕ) → stride * n + length vs ≤ length ws → f < length vs → field (puts ws (stride * n) 0 vs) (n + 1) f ≡ getD vs f 0
+put-word ws n vs f b h = let e : at (n + 1) f ≡ stride * n + 0 + f = omega arith in rw e (puts-at ws (stride * n) 0 vs f (omega arith) h)
+
+-- all words of a new label
+module _ (ws : List ℕ) (n : ℕ) (label : Label) (parent cursor previous : ℕ) (room : stride * (n + 1) ≤ length ws) where
+  abbrev words : List ℕ
+  words = label .junction ∷ label .clock ∷ label .spell ∷ label .shift ∷ parent ∷ cursor ∷ (n + 1) ∷ previous ∷ []
+
+  abbrev ws′ : List ℕ
+  ws′ = puts ws (stride * n) 0 words
+
+  word : (f : ℕ) → f < stride → field ws′ (n + 1) f ≡ getD words f 0
+  word f small = put-word ws n words f (omega arith) (omega arith)
+
+  is-label : labelAt ws′ (n + 1) ≡ label
+  is-label = rw (word junctionField (omega arith), word clockField (omega arith), word spellField (omega arith), word shiftField (omega arith))
+
+  kept : (p : ℕ) → p < stride * n → getD ws′ p 0 ≡ getD ws p 0
+  kept p h = puts-below ws (stride * n) 0 words p (omega arith)
+
+  link : field ws′ (n + 1) previousField ≡ previous
+  link = word previousField (omega arith)
+
+  added : Added ws ws′ n label parent cursor
+  added = record {
+    is-label = is-label;
+    is-parent = word parentField (omega arith);
+    is-cursor = word cursorField (omega arith);
+    wins = word winnerField (omega arith);
+    kept = kept;
+    settled = settled-more ws′ n ∙ ap₂ (λ (l : List Label) (a : Label). l ++ (a ∷ [])) (settled-same ws ws′ n (kept-labels ws ws′ n kept)) is-label;
+  }
+
+-- what the store of all its words says of a new label
+pub label-stored :
+    (ws ws′ : List ℕ) (n : ℕ) (label : Label) (parent cursor previous : ℕ) → stride * (n + 1) ≤ length ws
+    → ws′ ≡ puts ws (stride * n) 0 (label .junction ∷ label .clock ∷ label .spell ∷ label .shift ∷ parent ∷ cursor ∷ (n + 1) ∷ previous ∷ [])
+    → Added ws ws′ n label parent cursor × (previousOf ws′ (n + 1) ≡ previous)
+label-stored ws ws′ n label parent cursor previous room e =
+    rw e (added ws n label parent cursor previous room, link ws n label parent cursor previous room)
+
+-- each column is longer by the new label's word
+pub column-added :
+    (f : ℕ) (ws ws′ : List ℕ) (n : ℕ) (label : Label) (parent cursor : ℕ) → f < stride → Added ws ws′ n label parent cursor
+    → column f ws′ (n + 1) ≡ column f ws n ++ (field ws′ (n + 1) f ∷ [])
+column-added f ws ws′ n label parent cursor small A =
+    column-more f ws′ n ∙ ap (λ (l : List ℕ). l ++ (field ws′ (n + 1) f ∷ [])) (column-same f ws ws′ n (kept-field ws ws′ n (A .kept) f small))

@@ -1,0 +1,116 @@
+-- The label run: label k, from 1, is so many words from word stride * (k - 1) on. Assumes nothing.
+use mathlib.Core.Path.{_≡_}
+use mathlib.Core.List.{List, [], _∷_, _++_}
+use Prim.Native.Nat.{ℕ, zero, suc, _+_, _-_, _*_, _≤_, _<_}
+use lib.ListN.{getD, set}
+use Rattle.labels.specs.declared.Label.{Label}
+
+abbrev pub stride : ℕ
+stride = 8
+
+abbrev pub largestWord : ℕ
+largestWord = 4294967295
+
+-- which of a label's words is which
+abbrev pub junctionField : ℕ
+junctionField = 0
+
+abbrev pub clockField : ℕ
+clockField = 1
+
+abbrev pub spellField : ℕ
+spellField = 2
+
+abbrev pub shiftField : ℕ
+shiftField = 3
+
+-- the label that this one was made from
+abbrev pub parentField : ℕ
+parentField = 4
+
+-- which successor of the label is its candidate
+abbrev pub cursorField : ℕ
+cursorField = 5
+
+-- the label with the least candidate in this node's subtree of the winner tree
+abbrev pub winnerField : ℕ
+winnerField = 6
+
+-- the last label before this one at the same junction, 0 if none
+abbrev pub previousField : ℕ
+previousField = 7
+
+-- where word f of label k stands
+abbrev pub at : ℕ → ℕ → ℕ
+at k f = stride * (k - 1) + f
+
+abbrev pub field : List ℕ → ℕ → ℕ → ℕ
+field ws k f = getD ws (at k f) 0
+
+abbrev pub junctionOf : List ℕ → ℕ → ℕ
+junctionOf ws k = field ws k junctionField
+
+abbrev pub clockOf : List ℕ → ℕ → ℕ
+clockOf ws k = field ws k clockField
+
+abbrev pub parentOf : List ℕ → ℕ → ℕ
+parentOf ws k = field ws k parentField
+
+abbrev pub cursorOf : List ℕ → ℕ → ℕ
+cursorOf ws k = field ws k cursorField
+
+abbrev pub winnerOf : List ℕ → ℕ → ℕ
+winnerOf ws k = field ws k winnerField
+
+abbrev pub previousOf : List ℕ → ℕ → ℕ
+previousOf ws k = field ws k previousField
+
+abbrev pub labelAt : List ℕ → ℕ → Label
+labelAt ws k =
+    record {
+      junction = junctionOf ws k;
+      clock = clockOf ws k;
+      spell = field ws k spellField;
+      shift = field ws k shiftField;
+    }
+
+-- labels 1 .. n, in order
+unfoldable pub settled : List ℕ → ℕ → List Label
+settled ws zero = []
+settled ws (suc n) = settled ws n ++ (labelAt ws (suc n) ∷ [])
+
+-- word f of labels 1 .. n, in order
+unfoldable pub column : ℕ → List ℕ → ℕ → List ℕ
+column f ws zero = []
+column f ws (suc n) = column f ws n ++ (field ws (suc n) f ∷ [])
+
+-- word f of labels 1 .. n is as it was
+abbrev pub Same : ℕ → List ℕ → List ℕ → ℕ → Type 0
+Same f ws ws′ n = (k : ℕ) → 1 ≤ k → k ≤ n → field ws′ k f ≡ field ws k f
+
+-- labels 1 .. n are as they were, but for parents, cursors and winners
+pub record SameLabels (ws ws′ : List ℕ) (n : ℕ) : Type 0 where
+  pub junctions : Same junctionField ws ws′ n
+  pub clocks : Same clockField ws ws′ n
+  pub spells : Same spellField ws ws′ n
+  pub shifts : Same shiftField ws ws′ n
+  pub previous : Same previousField ws ws′ n
+
+-- label n + 1 is new, as the winner of its own node, and each word of labels 1 .. n is as it was
+pub record Added (ws ws′ : List ℕ) (n : ℕ) (label : Label) (parent cursor : ℕ) : Type 0 where
+  pub is-label : labelAt ws′ (n + 1) ≡ label
+  pub is-parent : parentOf ws′ (n + 1) ≡ parent
+  pub is-cursor : cursorOf ws′ (n + 1) ≡ cursor
+  pub wins : winnerOf ws′ (n + 1) ≡ n + 1
+  pub kept : (p : ℕ) → p < stride * n → getD ws′ p 0 ≡ getD ws p 0
+  pub settled : settled ws′ (n + 1) ≡ settled ws n ++ (label ∷ [])
+
+-- r is the winner of node k, 0 where k is past the n labels
+pub record WinnerWithin (ws : List ℕ) (n k r : ℕ) : Type 0 where
+  pub within : k ≤ n → r ≡ winnerOf ws k
+  pub past : n < k → r ≡ 0
+
+-- the values stored from word i + f on
+unfoldable pub puts : List ℕ → ℕ → ℕ → List ℕ → List ℕ
+puts ws i f [] = ws
+puts ws i f (v ∷ vs) = puts (set ws (i + f) v) i (f + 1) vs

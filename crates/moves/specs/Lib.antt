@@ -1,0 +1,4 @@
+pub mod Trip
+pub mod Moves
+pub mod Runs
+pub mod Compared
