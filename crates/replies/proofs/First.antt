@@ -122,7 +122,7 @@ none-fitted (t ∷ ts) success from-1 e = at (t .place) refl (λ rest. none-fitt
     at none is-none go = (is-none, go (rw (is-none, refusedOr) at e))
     at (some place) is-some go = absurd (omega (arith, rw (is-some, refusedOr) at e))
 
-refusal-number : (why : Refusal) → 1 ≤ toldRefusal why .number
+pub refusal-number : (why : Refusal) → 1 ≤ toldRefusal why .number
 refusal-number (ShortMap p) = lit≤ tt
 refusal-number StrangeMap = lit≤ tt
 refusal-number (Oversize p) = lit≤ tt

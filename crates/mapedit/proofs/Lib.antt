@@ -1,0 +1,7 @@
+-- The laws of names and of chain making.
+pub mod Tried
+pub mod Named
+pub mod PutAll
+pub mod Linked
+pub mod Making
+pub mod Chained

@@ -1,0 +1,4 @@
+pub mod Pick
+pub mod Name
+pub mod Chaining
+pub mod Passes

@@ -1,0 +1,28 @@
+-- A junction's name: the reply, and the part of the map that spells it. Document 01, "Afterwards". Assumes nothing.
+use Prim.Native.Nat.{ℕ, _+_}
+use mathlib.Core.List.{List, [], _∷_, _++_}
+use mathlib.Core.Option.{Option}
+use lib.Dec.{eqb}
+use lib.ListN.{take, drop}
+use Rattle.replies.specs.declared.Reply.{Reply}
+use Rattle.replies.specs.First.{_at_, placed, firstOf}
+use Rattle.replies.specs.Told.{succeeded}
+use Rattle.roadmap.specs.Format.{junctionCount, namesAt, nameStart, nameLength}
+use Rattle.mapcheck.specs.MapCheck.{outside, mapTests}
+use Rattle.mapedit.specs.Pick.{pick}
+
+-- 20 unknown name: junction 0 or above J; junction
+abbrev pub unknownName : List ℕ → ℕ → Option ℕ
+unknownName map junction = placed (outside 1 (junctionCount map) junction) junction
+
+-- name: 1 to 8, 20; else 0, name length, 0
+unfoldable pub nameReply : List ℕ → ℕ → Reply
+nameReply map junction =
+    firstOf (mapTests map ++ ((20 at unknownName map junction) ∷ [])) (succeeded (nameLength map junction) 0)
+
+-- the part of the map that spells the junction's name, where the reply's number is 0; else empty
+unfoldable pub namePart : List ℕ → ℕ → List ℕ
+namePart map junction =
+    pick (eqb (nameReply map junction .number) 0)
+    (take (nameLength map junction) (drop (namesAt map + nameStart map junction) map))
+    []
