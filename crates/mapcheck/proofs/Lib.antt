@@ -5,3 +5,4 @@ pub mod Reaches
 pub mod Due
 pub mod Listed
 pub mod Sound
+pub mod Tried

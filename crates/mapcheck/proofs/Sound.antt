@@ -19,6 +19,7 @@ use Rattle.mapcheck.specs.Listed.{roadsFrom}
 use Rattle.mapcheck.specs.MapCheck.{badJunctionAt, badJunction, badNext, badRoadAt, badRoad, brokenChain, oversize, misfit, AcceptedMap}
 use Rattle.mapcheck.proofs.Counts.{or-false, placed-none, Within, within, InRange, in-range}
 use Rattle.mapcheck.proofs.Listed.{map-listed}
+use Rattle.mapcheck.proofs.Tried.{has-whole, accepted-sizes}
 
 module _ (map : List ℕ) where
   -- a junction's flag and name place
@@ -88,9 +89,6 @@ module _ (map : List ℕ) where
   pub links-of : badJunction true map ≡ none → badRoad true map ≡ none → MapLinks map
   links-of junctions roads = sound-links (lowest-is-none _ 1 _ junctions) (lowest-is-none _ 1 _ roads)
 
-  not-misfit : misfit map ≡ none → length map ≡ lengthNeeded map
-  not-misfit e = eqb-true _ _ (not-false (eqb (length map) (lengthNeeded map)) (placed-none (lengthNeeded map) e))
-
   -- what an accepted map is
   pub record SoundMap : Type 0 where
     pub counts : InRange (junctionCount map) (roadCount map) (nameBytes map)
@@ -111,7 +109,7 @@ module _ (map : List ℕ) where
       let linked = sound-links no-junction no-road in
       record {
         counts = in-range _ _ _ (sizes .0);
-        whole = not-misfit (sizes .1 .0);
+        whole = has-whole map (accepted-sizes map accepted);
         junctions = λ j low high. sound-junction true j (no-junction j low (omega arith));
         roads = λ r low high. sound-road true r (no-road r low (omega arith));
         links = linked;

@@ -21,7 +21,7 @@ use Rattle.mapcheck.proofs.Counts.{placed-none, none-of-1-to-4}
 use Rattle.mapcheck.proofs.Sound.{links-of}
 use Rattle.mapcheck.proofs.Listed.{MapMade, map-made, made-map-links, made-map-unbroken}
 use Rattle.mapedit.specs.Chaining.{putAll, firstLink, nextLink, nextAt, chained}
-use Rattle.mapedit.proofs.Tried.{has-header, has-whole, unchained-sizes}
+use Rattle.mapcheck.proofs.Tried.{has-header, has-whole, unchained-sizes}
 use Rattle.mapedit.proofs.Linked.{links-length, links-byte, links-format, links-junctions, links-roads, links-names, links-junction, links-road, links-from, links-first, links-next}
 use Rattle.mapedit.proofs.PutAll.{put-all-own}
 use Rattle.mapedit.proofs.Making.{from-known}

@@ -1,5 +1,4 @@
 -- The laws of names and of chain making.
-pub mod Tried
 pub mod Named
 pub mod PutAll
 pub mod Linked

@@ -6,7 +6,10 @@ ghost use Rattle.roadmap.specs.Format.{junctionCount, roadCount};
 ghost use Rattle.moves.specs.Trip.{stretchOf, parkIn};
 ghost use Rattle.moves.specs.Moves.{startOf, move, pauseMove, driven, afterBreak, afterRest, legal, judged, stepped, leaves, pausesAt};
 ghost use Rattle.moves.specs.Runs.{Accepted, InRange, tripIn};
+ghost use Rattle.moves.specs.Opened.{OpenedSays};
 use driving::Order;
+use replies::Check;
+use replies::Refusal;
 use roadmap::Sizes;
 use seconds::Clock;
 use seconds::Wheel;
@@ -225,4 +228,30 @@ pub fn take_move(map: &[u8], run: Run, state: State, m: Move) -> Step
         return pause(map, run, state, number, false);
     }
     Step::Foreign
+}
+
+// A run whose map and order are accepted, or why there is none.
+pub enum Opened {
+    Ready(Run),
+    Refused(Refusal),
+}
+
+// Refusals 1 to 11.
+pub fn open_run(map: &[u8], order: &[u8]) -> Opened
+    ensures { λ r. ⌜ OpenedSays (now (map .entry)) (now (order .entry)) r ⌝ }
+{
+    let map_check = mapcheck::check_map(map);
+    if let Check::Refused(why) = map_check {
+        return Opened::Refused(why);
+    }
+    let sizes = roadmap::sizes_of(map);
+    let order_check = driving::check_order(order, sizes.junctions);
+    if let Check::Refused(why) = order_check {
+        return Opened::Refused(why);
+    }
+    let decoded = driving::read_order(order);
+    Opened::Ready(Run {
+        sizes,
+        order: decoded,
+    })
 }

@@ -1,7 +1,7 @@
 -- The laws of "the lowest" and of "the first refusal that fits". Assumes nothing.
 use mathlib.Core.Path.{_≡_, _∙_, refl, sym, ap}
 use mathlib.Core.Bool.{Bool, true, false}
-use mathlib.Core.List.{List, [], _∷_, _++_}
+use mathlib.Core.List.{List, [], _∷_, _++_, append-assoc}
 use mathlib.Core.Logic.{_⊎_, inl, inr, ⊎-elim}
 use mathlib.Core.Option.{Option, none, some}
 use Prim.Native.Nat.{ℕ, zero, suc, _+_, _≤_, _<_}
@@ -163,3 +163,15 @@ tried ts (Check.Refused why) from-1 e = refuses ts why (sym e)
 pub stops-at : (t : Test) (ts : List Test) (success : Reply) {place : ℕ} → t .place ≡ some place → firstOf (t ∷ ts) success ≡ refusedAt (t .number) place
 unfolding firstOf
 stops-at t ts success e = rw e
+
+-- lists that are tried one after the other
+pub refuses-more : (ts us : List Test) (why : Refusal) → Refuses ts why → Refuses (ts ++ us) why
+refuses-more ts us why refused rest success = rw (append-assoc ts us rest) (refused (us ++ rest) success)
+
+pub refuses-after : (ts us : List Test) (why : Refusal) → NoneFits ts → Refuses us why → Refuses (ts ++ us) why
+refuses-after ts us why none-first refused rest success =
+    rw (append-assoc ts us rest) (none-fits ts (us ++ rest) success none-first ∙ refused rest success)
+
+pub none-of-both : (ts us : List Test) → NoneFits ts → NoneFits us → NoneFits (ts ++ us)
+none-of-both [] us none-first none-second = none-second
+none-of-both (t ∷ ts) us none-first none-second = (none-first .0, none-of-both ts us (none-first .1) none-second)

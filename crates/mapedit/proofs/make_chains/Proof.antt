@@ -10,7 +10,7 @@ use Rattle.replies.specs.Told.{succeeded, toldCheck}
 use Rattle.roadmap.specs.Format.{HasSizes}
 use Rattle.mapcheck.specs.MapCheck.{chainingTests}
 use Rattle.mapedit.specs.Chaining.{chained}
-use Rattle.mapedit.proofs.Tried.{chaining-tried, has-header, has-sizes, unchained-sizes}
+use Rattle.mapcheck.proofs.Tried.{chaining-tried, has-header, has-sizes, unchained-sizes}
 use Rattle.mapedit.proofs.Linked.{cleared-sizes, cleared-known, cleared-twice, chained-cleared}
 use Rattle.mapedit.proofs.Making.{made-refused, made-passed, from-known}
 use Rattle.mapedit.proofs.make_chains.Statement.{statement}

@@ -7,7 +7,7 @@ use Rattle.replies.specs.declared.NameReply.{NameReply}
 use Rattle.replies.specs.Told.{succeeded, toldName}
 use Rattle.roadmap.specs.Format.{HasSizes}
 use Rattle.mapedit.specs.Name.{nameReply}
-use Rattle.mapedit.proofs.Tried.{has-header, has-sizes, accepted-sizes}
+use Rattle.mapcheck.proofs.Tried.{has-header, has-sizes, accepted-sizes}
 use Rattle.mapedit.proofs.Named.{Named, reply-named, part-named, part-refused}
 use Rattle.mapedit.proofs.name.Statement.{statement}
 use Rattle.mapedit.proofs.name.Tie as tie

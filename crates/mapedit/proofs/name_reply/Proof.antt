@@ -9,7 +9,7 @@ use Rattle.replies.specs.First.{Tried}
 use Rattle.replies.specs.Told.{succeeded}
 use Rattle.roadmap.specs.Format.{HasSizes}
 use Rattle.mapcheck.specs.MapCheck.{mapTests, AcceptedMap}
-use Rattle.mapedit.proofs.Tried.{map-tried, has-header, has-sizes, accepted-sizes}
+use Rattle.mapcheck.proofs.Tried.{map-tried, has-header, has-sizes, accepted-sizes}
 use Rattle.mapedit.proofs.Named.{refused-map, below-all, above-all, named}
 use Rattle.mapedit.proofs.name_reply.Statement.{statement}
 use Rattle.mapedit.proofs.name_reply.Tie as tie
