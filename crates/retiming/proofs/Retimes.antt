@@ -1,0 +1,96 @@
+-- Retiming's answer and the other sheet afterwards, by where the walk ends. Assumes nothing.
+use mathlib.Core.Path.{_≡_, _∙_, refl, sym, ap, subst}
+use mathlib.Core.Bool.{true, false}
+use mathlib.Core.List.{List, [], _∷_, _++_}
+use mathlib.Core.Option.{none, some}
+use Prim.Native.Nat.{ℕ, _+_, _*_, _≤_, _<_}
+use native.Mathlib.Omega.{arith}
+use borrow.Author.Tests.{ne-eqb, lt-ltb, le-ltb}
+use lib.ListN.{length}
+use Rattle.seconds.specs.declared.Clock.{Clock}
+use Rattle.replies.specs.declared.Refusal.{Refusal}
+use Rattle.replies.specs.declared.Refusal.the-variants.{ShortSheet}
+use Rattle.replies.specs.declared.Reply.{Reply}
+use Rattle.replies.specs.declared.Timing.{Timing}
+use Rattle.replies.specs.First.{_at_, firstOf, NoneFits, Refuses}
+use Rattle.replies.specs.Told.{succeeded, refusedAt, toldRefusal, toldTiming}
+use Rattle.replies.proofs.First.{none-fits, stops-at, passed-over, refusal-number}
+use Rattle.driving.specs.declared.Order.{Order}
+use Rattle.driving.specs.Order.{orderOf}
+use Rattle.moves.specs.Opened.{runTests}
+use Rattle.moves.specs.declared.State.{State}
+use Rattle.sheets.specs.declared.Heading.{Heading}
+use Rattle.sheets.specs.Sheet.{headingOf, sheetNeeded, sheetAfter, withHeading}
+use Rattle.sheets.specs.Written.{rowsFrom}
+use Rattle.sheets.proofs.Writing.{heading-last}
+use Rattle.sheets.proofs.Reading.{length-rows-of}
+use Rattle.retiming.specs.declared.Walked.{Walked}
+use Rattle.retiming.specs.Walk.{Walk, reached, arrivalOf}
+use Rattle.retiming.specs.Retiming.{movesOn, timing, sheetTests, shortSheet, retimedTo, retimingReply}
+use Rattle.retiming.specs.Parts.{SheetSays, rowsReached, RetimedRun, Retimed}
+use Rattle.retiming.proofs.Judging.{arrival-reached}
+use Rattle.retiming.proofs.Rewriting.{reached-is, walk-length}
+
+-- the header with true figures
+abbrev pub retimedHeading : Heading → State → Heading
+retimedHeading given s =
+    record { moves = given .moves; arrival = s .clock .0; spell = s .spell .0; shift = s .shift .0; labels = given .labels }
+
+module _ (map : List ℕ) (order : Order) (sheet before : List ℕ) where
+  abbrev timed : Walk
+  timed = timing false map order sheet
+
+  pub retimed-refused : (why : Refusal) → SheetSays order sheet timed (Walked.Refused why) → RetimedRun map order sheet before before (Timing.Refused why)
+  retimed-refused why says =
+      record { reply = sym (says _ _); bytes = rw (ne-eqb (toldRefusal why .number) 0 (λ e. omega (arith, refusal-number why))) refl }
+
+  module _ (s : State) (ended : SheetSays order sheet timed (Walked.Reached s)) (given : Heading) (is : given ≡ headingOf sheet) where
+    pub retimed-short : length before < 20 + 12 * given .moves → RetimedRun map order sheet before before (Timing.Refused (ShortSheet (20 + 12 * given .moves)))
+    retimed-short short =
+        let needs : length before < sheetNeeded (movesOn sheet) = rw is at short in
+        record {
+          reply = rw is
+              (sym
+              (none-fits (sheetTests order sheet timed) _ _ (ended .1)
+              ∙ stops-at (14 at shortSheet (movesOn sheet) before) [] _ (rw (lt-ltb _ _ needs))));
+          bytes = refl;
+        }
+
+    -- as many records are written as the sheet has moves
+    count : length (rowsReached timed) ≡ movesOn sheet
+    unfolding timing
+    count = walk-length false _ 1 _ _ (reached-is timed s (ended .2)) ∙ length-rows-of sheet 1 (movesOn sheet)
+
+    pub retimed-written : 20 + 12 * given .moves ≤ length before → (after : List ℕ) →
+        after ≡ withHeading (rowsFrom 0 (rowsReached timed) before) (retimedHeading given s) →
+        RetimedRun map order sheet before after (Timing.Timed (given .moves) (s .clock))
+    unfolding firstOf
+    retimed-written fits after written =
+        let enough : sheetNeeded (movesOn sheet) ≤ length before = rw is at fits in
+        record {
+          reply = rw (is, ← arrival-reached timed s (ended .2))
+              (sym
+              (none-fits (sheetTests order sheet timed) ((14 at shortSheet (movesOn sheet) before) ∷ []) (succeeded (movesOn sheet) (arrivalOf timed)) (ended .1)
+              ∙ passed-over (14 at shortSheet (movesOn sheet) before) [] (succeeded (movesOn sheet) (arrivalOf timed)) (rw (le-ltb _ _ enough))));
+          bytes = written
+              ∙ heading-last (retimedHeading given s) (rowsReached timed) before (rw count enough)
+              ∙ ap (λ (h : Heading). sheetAfter (retimedHeading h s) (rowsReached timed) before) is
+              ∙ ap (λ (w : Walk). retimedTo (headingOf sheet) w before) (sym (reached-is timed s (ended .2)));
+        }
+
+-- and of an order that is not decoded yet
+module _ (map order sheet before : List ℕ) where
+  pub retimed-unopened : (why : Refusal) → Refuses (runTests map order) why → Retimed map order sheet before before (Timing.Refused why)
+  retimed-unopened why says =
+      let told = says _ _ in
+      record {
+        reply = sym told;
+        bytes = rw (told, ne-eqb (toldRefusal why .number) 0 (λ e. omega (arith, refusal-number why))) refl;
+      }
+
+  pub retimed-opened : (decoded : Order) (after : List ℕ) (answer : Timing) → decoded ≡ orderOf order → NoneFits (runTests map order) →
+      RetimedRun map decoded sheet before after answer → Retimed map order sheet before after answer
+  retimed-opened decoded after answer is passed run =
+      let opened : RetimedRun map (orderOf order) sheet before after answer = subst (λ (o : Order). RetimedRun map o sheet before after answer) is run in
+      let told : toldTiming answer ≡ retimingReply map order sheet before = opened .reply ∙ sym (none-fits (runTests map order) _ _ passed) in
+      record { reply = told; bytes = opened .bytes ∙ rw told refl }

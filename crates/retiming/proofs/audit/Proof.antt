@@ -1,0 +1,41 @@
+use borrow.Author.Needs.{needs}
+use mathlib.Core.Path.{_≡_, _∙_, refl, sym, ap, subst}
+use Rattle.replies.specs.Told.{toldTiming}
+use Rattle.replies.proofs.First.{none-fits}
+use Rattle.driving.specs.declared.Order.{Order}
+use Rattle.moves.specs.Opened.{runTests, OpenedSays}
+use Rattle.retiming.specs.Parts.{auditedRun}
+use Rattle.retiming.proofs.audit.Statement.{statement}
+use Rattle.retiming.proofs.audit.Tie as tie
+
+audit-run-requires : tie.Need-audit-run-requires
+audit-run-requires c κs =
+    let opened = c .before .before .before in
+    let args = opened .before .before .before .before .args in
+    subst (OpenedSays (args .map .now) (args .order .now)) (c .before .opened2 .given .1) (opened .open-run .ensures) .0
+
+returns : tie.Need-returns
+returns c =
+    let opened = c .before .before .before in
+    let args = opened .before .before .before .before .args in
+    sym (subst (OpenedSays (args .map .now) (args .order .now)) (c .before .opened .given .1) (opened .open-run .ensures) _ _)
+
+returns-2 : tie.Need-returns-2
+returns-2 c =
+    let told = c .before in
+    let opened = told .before .before .before in
+    let args = opened .before .before .before .before .args in
+    let ready = subst (OpenedSays (args .map .now) (args .order .now)) (told .before .opened2 .given .1) (opened .open-run .ensures) in
+    subst (λ (o : Order). toldTiming (c .audit-run .result) ≡ auditedRun (args .map .now) o (args .sheet .now)) (ready .1) (c .audit-run .ensures)
+    ∙ sym (none-fits (runTests (args .map .now) (args .order .now)) _ _ (ready .2))
+
+pub audit-spec : {M : Type 1} → statement M
+audit-spec =
+    tie.close
+    (tie.spec
+    (λ c κs. search needs)
+    (λ c. search needs)
+    (λ c. search needs)
+    audit-run-requires
+    returns
+    returns-2)

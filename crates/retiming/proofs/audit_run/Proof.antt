@@ -1,0 +1,70 @@
+use borrow.Author.Needs.{needs}
+use mathlib.Core.Path.{_≡_, _∙_, refl, sym, ap, subst}
+use mathlib.Core.Bool.{Bool, true, false}
+use mathlib.Core.List.{[], _∷_}
+use native.Mathlib.Omega.{arith}
+use Prim.Native.Nat.{ℕ}
+use Rattle.replies.specs.First.{_at_}
+use Rattle.replies.specs.Told.{succeeded}
+use Rattle.sheets.specs.declared.Heading.{Heading}
+use Rattle.sheets.specs.Sheet.{headingOf}
+use Rattle.retiming.specs.declared.Walked.{Walked}
+use Rattle.retiming.specs.Walk.{arrivalOf}
+use Rattle.retiming.specs.Retiming.{movesOn, timing, falseFigures, falseHeader}
+use Rattle.retiming.specs.Parts.{SheetSays}
+use mathlib.Core.Bool.{true, false}
+use Rattle.retiming.specs.Retiming.{timing}
+use Rattle.retiming.proofs.Judging.{audited-refused, audited-false, audited-true}
+use Rattle.retiming.proofs.Judging.{arrival-reached, header-false, header-true}
+use Rattle.retiming.proofs.audit_run.Statement.{statement}
+use Rattle.retiming.proofs.audit_run.Tie as tie
+
+-- the walk was whole and ended at target
+ended : (c : tie.After-known-told2) →
+    let args = c .before .before .before .before .before .before .args in
+    SheetSays (args .run .order) (args .sheet .now) (timing true (args .map .now) (args .run .order) (args .sheet .now)) (Walked.Reached (c .before .judged2 .given .0 .0))
+ended c =
+    let judged = c .before .before .before in
+    let args = judged .before .before .before .args in
+    subst (SheetSays (args .run .order) (args .sheet .now) (timing true (args .map .now) (args .run .order) (args .sheet .now))) (c .before .judged2 .given .1) (judged .judge-sheet .ensures)
+
+read-heading-requires : tie.Need-read-heading-requires
+read-heading-requires c κs = omega (arith, ended c .0)
+
+returns : tie.Need-returns
+returns c =
+    let told = c .before .before in
+    let read = told .before in
+    let reached = read .before in
+    let args = reached .before .before .before .before .before .before .args in
+    audited-false (args .map .now) (args .run .order) (args .sheet .now) (reached .before .judged2 .given .0 .0) (read .read-heading .result) (read .read-heading .ensures) (ended reached) (sym (told .header-is-false .ensures) ∙ c .before .if1 .taken)
+
+returns-2 : tie.Need-returns-2
+returns-2 c =
+    let judged = c .before .before .before in
+    let args = judged .before .before .before .args in
+    audited-refused (args .map .now) (args .run .order) (args .sheet .now) (c .before .judged .given .0 .0)
+    (subst (SheetSays (args .run .order) (args .sheet .now) (timing true (args .map .now) (args .run .order) (args .sheet .now))) (c .before .judged .given .1) (judged .judge-sheet .ensures))
+
+returns-3 : tie.Need-returns-3
+returns-3 c =
+    let told = c .before .before in
+    let read = told .before in
+    let reached = read .before in
+    let args = reached .before .before .before .before .before .before .args in
+    audited-true (args .map .now) (args .run .order) (args .sheet .now) (reached .before .judged2 .given .0 .0) (read .read-heading .result) (read .read-heading .ensures) (ended reached) (sym (told .header-is-false .ensures) ∙ c .before .if1 .left)
+
+pub audit-run-spec : {M : Type 1} → statement M
+audit-run-spec =
+    tie.close
+    (tie.spec
+    (λ c κs. search needs)
+    (λ c. search needs)
+    (λ c. search needs)
+    read-heading-requires
+    (λ c κs. search needs)
+    (λ c. search needs)
+    (λ c. search needs)
+    returns
+    returns-2
+    returns-3)

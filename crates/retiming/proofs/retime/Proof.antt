@@ -1,0 +1,41 @@
+use borrow.Author.Needs.{needs}
+use mathlib.Core.Path.{_≡_, _∙_, refl, sym, ap, subst}
+use Rattle.moves.specs.Opened.{OpenedSays}
+use Rattle.retiming.proofs.Retimes.{retimed-unopened, retimed-opened}
+use Rattle.retiming.proofs.retime.Statement.{statement}
+use Rattle.retiming.proofs.retime.Tie as tie
+
+retime-run-requires : tie.Need-retime-run-requires
+retime-run-requires c κs =
+    let told = c .before in
+    let opened = told .before .before .before in
+    let args = opened .before .before .before .before .before .args in
+    subst (OpenedSays (args .map .now) (args .order .now)) (told .before .opened2 .given .1) (opened .open-run .ensures) .0
+
+returns : tie.Need-returns
+returns c =
+    let opened = c .before .before .before in
+    let args = opened .before .before .before .before .before .args in
+    retimed-unopened (args .map .now) (args .order .now) (args .sheet .now) (args .out .now) (c .before .opened .given .0 .0)
+    (subst (OpenedSays (args .map .now) (args .order .now)) (c .before .opened .given .1) (opened .open-run .ensures))
+
+returns-2 : tie.Need-returns-2
+returns-2 c =
+    let ran = c .before .before in
+    let told = ran .before .before in
+    let opened = told .before .before .before in
+    let args = opened .before .before .before .before .before .args in
+    let ready = subst (OpenedSays (args .map .now) (args .order .now)) (told .before .opened2 .given .1) (opened .open-run .ensures) in
+    retimed-opened (args .map .now) (args .order .now) (args .sheet .now) (args .out .now) (told .before .opened2 .given .0 .0 .order) (ran .retime-run .last .1 .1 .1 .0) (ran .retime-run .result) (ready .1) (ready .2) (ran .retime-run .ensures)
+
+pub retime-spec : {M : Type 1} → statement M
+retime-spec =
+    tie.close
+    (tie.spec
+    (λ c κs. search needs)
+    (λ c. search needs)
+    (λ c. search needs)
+    retime-run-requires
+    returns
+    (λ c. search needs)
+    returns-2)

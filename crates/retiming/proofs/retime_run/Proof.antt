@@ -1,0 +1,78 @@
+use borrow.Author.Needs.{needs}
+use mathlib.Core.Path.{_≡_, _∙_, refl, sym, ap, subst}
+use mathlib.Core.Bool.{false}
+use mathlib.Core.List.{List}
+use Prim.Native.Nat.{ℕ}
+use native.Mathlib.Omega.{arith}
+use Rattle.sheets.specs.declared.Heading.{Heading}
+use Rattle.sheets.specs.Sheet.{withHeading}
+use Rattle.retiming.specs.declared.Walked.{Walked}
+use Rattle.retiming.specs.Retiming.{timing}
+use Rattle.retiming.specs.Parts.{SheetSays}
+use Rattle.retiming.proofs.Retimes.{retimedHeading, retimed-refused, retimed-short, retimed-written}
+use Rattle.retiming.proofs.Rewriting.{says-ends}
+use Rattle.retiming.proofs.retime_run.Statement.{statement}
+use Rattle.retiming.proofs.retime_run.Tie as tie
+
+-- the walk was whole and ended at target
+ended : (c : tie.After-known-told2) →
+    let args = c .before .before .before .before .before .before .before .args in
+    SheetSays (args .run .order) (args .sheet .now) (timing false (args .map .now) (args .run .order) (args .sheet .now)) (Walked.Reached (c .before .judged2 .given .0 .0))
+ended c =
+    let judged = c .before .before .before in
+    let args = judged .before .before .before .before .args in
+    subst (SheetSays (args .run .order) (args .sheet .now) (timing false (args .map .now) (args .run .order) (args .sheet .now))) (c .before .judged2 .given .1) (judged .judge-sheet .ensures)
+
+read-heading-requires : tie.Need-read-heading-requires
+read-heading-requires c κs = omega (arith, ended c .0)
+
+returns : tie.Need-returns
+returns c =
+    let read = c .before .before in
+    let reached = read .before in
+    let args = reached .before .before .before .before .before .before .before .args in
+    retimed-short (args .map .now) (args .run .order) (args .sheet .now) (args .out .now) (reached .before .judged2 .given .0 .0) (ended reached) (read .read-heading .result) (read .read-heading .ensures) (c .if1 .taken)
+
+write-rows-requires : tie.Need-write-rows-requires
+write-rows-requires c κs =
+    let read = c .before .before .before in
+    let reached = read .before in
+    let start = reached .before .before .before .before .before .before .before in
+    let judged = ended reached in
+    (start .pre, (judged .0, (says-ends (timing false (start .args .map .now) (start .args .run .order) (start .args .sheet .now)) (reached .before .judged2 .given .0 .0) (judged .2), rw (← ap (λ (h : Heading). h .moves) (read .read-heading .ensures)) (c .before .if1 .left))))
+
+returns-2 : tie.Need-returns-2
+returns-2 c =
+    let judged = c .before .before .before in
+    let args = judged .before .before .before .before .args in
+    retimed-refused (args .map .now) (args .run .order) (args .sheet .now) (args .out .now) (c .before .judged .given .0 .0)
+    (subst (SheetSays (args .run .order) (args .sheet .now) (timing false (args .map .now) (args .run .order) (args .sheet .now))) (c .before .judged .given .1) (judged .judge-sheet .ensures))
+
+returns-3 : tie.Need-returns-3
+returns-3 c =
+    let put = c .before .before .before in
+    let wrote = put .before .before .before .before in
+    let chosen = wrote .before .before in
+    let read = chosen .before .before in
+    let reached = read .before in
+    let args = reached .before .before .before .before .before .before .before .args in
+    retimed-written (args .map .now) (args .run .order) (args .sheet .now) (args .out .now) (reached .before .judged2 .given .0 .0) (ended reached) (read .read-heading .result) (read .read-heading .ensures) (chosen .if1 .left) (put .put-heading .last .0)
+    (put .put-heading .ensures ∙ ap (λ (l : List ℕ). withHeading l (retimedHeading (read .read-heading .result) (reached .before .judged2 .given .0 .0))) (wrote .write-rows .ensures))
+
+pub retime-run-spec : {M : Type 1} → statement M
+retime-run-spec =
+    tie.close
+    (tie.spec
+    (λ c κs. search needs)
+    (λ c. search needs)
+    (λ c. search needs)
+    read-heading-requires
+    (λ c. search needs)
+    (λ c. search needs)
+    (λ c. search needs)
+    returns
+    write-rows-requires
+    (λ c κs. search needs)
+    returns-2
+    (λ c. search needs)
+    returns-3)

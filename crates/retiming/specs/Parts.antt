@@ -1,0 +1,74 @@
+-- What the parts of retiming and audit find. Assumes nothing.
+use mathlib.Core.Path.{_≡_}
+use mathlib.Core.Bool.{Bool, true, false, not, _&&_}
+use mathlib.Core.List.{List, [], _∷_, _++_}
+use Prim.Native.Nat.{ℕ}
+use lib.Dec.{eqb}
+use Rattle.replies.specs.declared.Reply.{Reply}
+use Rattle.replies.specs.declared.Timing.{Timing}
+use Rattle.replies.specs.First.{_at_, firstOf, NoneFits, Refuses}
+use Rattle.replies.specs.Told.{refusedAt, succeeded, toldRefusal, toldTiming}
+use Rattle.driving.specs.declared.Order.{Order}
+use Rattle.sheets.specs.declared.Row.{Row}
+use Rattle.sheets.specs.Sheet.{headingOf}
+use Rattle.sheets.specs.Written.{Whole}
+use Rattle.moves.specs.declared.State.{State}
+use Rattle.retiming.specs.declared.Walked.{Walked}
+use Rattle.retiming.specs.Walk.{Walk, refused, reached, arrivalOf}
+use Rattle.retiming.specs.Retiming.{movesOn, timing, sheetTests, shortSheet, falseHeader, pick, retimedTo, retimingReply, retimedSheet}
+
+abbrev pub pickWalk : Bool → Walk → Walk → Walk
+pickWalk true a b = a
+pickWalk false a b = b
+
+-- a state that a legal move led to, and the record's clock
+abbrev pub clockWalk : Bool → ℕ → ℕ → State → Walk
+clockWalk clocks k clock s = pickWalk (clocks && not (eqb clock (s .clock .0))) (refused 18 k) (reached s [])
+
+-- the walk's end, without its records
+abbrev pub WalkSays : Walk → Walked → Type 0
+WalkSays (refused number move) (Walked.Refused why) = toldRefusal why ≡ refusedAt number move
+WalkSays (refused number move) (Walked.Reached s) = ⊥
+WalkSays (reached t rows) (Walked.Refused why) = ⊥
+WalkSays (reached t rows) (Walked.Reached s) = s ≡ t
+
+-- 15 to 17 (18) and 19: the refusal, or the state reached
+abbrev pub SheetSays : Order → List ℕ → Walk → Walked → Type 0
+SheetSays order sheet timed (Walked.Refused why) = Refuses (sheetTests order sheet timed) why
+SheetSays order sheet timed (Walked.Reached s) = Whole sheet × NoneFits (sheetTests order sheet timed) × WalkSays timed (Walked.Reached s)
+
+-- audit's reply, once a run is opened
+abbrev pub auditedRun : List ℕ → Order → List ℕ → Reply
+auditedRun map order sheet =
+    firstOf (sheetTests order sheet (timing true map order sheet) ++ ((18 at falseHeader (headingOf sheet) (timing true map order sheet)) ∷ []))
+    (succeeded (movesOn sheet) (arrivalOf (timing true map order sheet)))
+
+-- no refusal met the walk
+abbrev pub Ends : Walk → Type 0
+Ends (refused number move) = ⊥
+Ends (reached s rows) = Unit {0}
+
+abbrev pub lastReached : State → Walk → State
+lastReached start (refused number move) = start
+lastReached start (reached s rows) = s
+
+-- the records that a walk gives their true clocks
+abbrev pub rowsReached : Walk → List Row
+rowsReached (refused number move) = []
+rowsReached (reached s rows) = rows
+
+-- retiming's reply, once a run is opened
+abbrev pub retimedRun : List ℕ → Order → List ℕ → List ℕ → Reply
+retimedRun map order sheet before =
+    firstOf (sheetTests order sheet (timing false map order sheet) ++ ((14 at shortSheet (movesOn sheet) before) ∷ []))
+    (succeeded (movesOn sheet) (arrivalOf (timing false map order sheet)))
+
+-- the answer and the other sheet afterwards, once a run is opened
+pub record RetimedRun (map : List ℕ) (order : Order) (sheet before after : List ℕ) (answer : Timing) : Type 0 where
+  pub reply : toldTiming answer ≡ retimedRun map order sheet before
+  pub bytes : after ≡ pick (eqb (toldTiming answer .number) 0) (retimedTo (headingOf sheet) (timing false map order sheet) before) before
+
+-- retiming's answer and the other sheet afterwards
+pub record Retimed (map order sheet before after : List ℕ) (answer : Timing) : Type 0 where
+  pub reply : toldTiming answer ≡ retimingReply map order sheet before
+  pub bytes : after ≡ retimedSheet map order sheet before

@@ -1,0 +1,94 @@
+-- Retiming and audit: the reply for any input, and the sheet afterwards. Document 01, "Retiming" and "Afterwards". Assumes nothing.
+use mathlib.Core.Bool.{Bool, true, false, not, _||_}
+use mathlib.Core.List.{List, [], _∷_, _++_}
+use mathlib.Core.Option.{Option, none}
+use Prim.Native.Nat.{ℕ, _+_}
+use lib.Dec.{eqb, ltb}
+use lib.ListN.{length}
+use Rattle.replies.specs.declared.Reply.{Reply}
+use Rattle.replies.specs.First.{Test, _at_, firstOf, placed}
+use Rattle.replies.specs.Told.{succeeded}
+use Rattle.driving.specs.declared.Order.{Order}
+use Rattle.driving.specs.Order.{orderOf}
+use Rattle.moves.specs.declared.State.{State}
+use Rattle.moves.specs.Trip.{tripOf}
+use Rattle.moves.specs.Moves.{startOf}
+use Rattle.moves.specs.Opened.{runTests}
+use Rattle.sheets.specs.declared.Heading.{Heading}
+use Rattle.sheets.specs.Sheet.{headingOf, rowsOf, sheetNeeded, sheetAfter, tornSheet}
+use Rattle.retiming.specs.Walk.{Walk, refused, reached, walk, moveTest, stray, arrivalOf}
+
+abbrev pub movesOn : List ℕ → ℕ
+movesOn sheet = headingOf sheet .moves
+
+-- the sheet's moves, from the start that the order gives
+unfoldable pub timing : Bool → List ℕ → Order → List ℕ → Walk
+timing clocks map order sheet =
+    walk clocks (tripOf map order) 1 (startOf order) (rowsOf sheet 1 (movesOn sheet))
+
+-- 14 short sheet: under 20 + 12M; bytes needed
+abbrev pub shortSheet : ℕ → List ℕ → Option ℕ
+shortSheet moves out = placed (ltb (length out) (sheetNeeded moves)) (sheetNeeded moves)
+
+-- 15, then 16 and 17 move by move (with 18, where clocks are compared), 19
+abbrev pub sheetTests : Order → List ℕ → Walk → List Test
+sheetTests order sheet timed =
+    (15 at tornSheet sheet) ∷ moveTest timed ∷ (19 at stray (order .target) timed) ∷ []
+
+-- retiming: 1 to 11, 15, then 16 and 17 move by move, 19, 14
+abbrev pub retimingTests : List ℕ → List ℕ → List ℕ → List ℕ → Walk → List Test
+retimingTests map order sheet out timed =
+    runTests map order
+    ++ (sheetTests (orderOf order) sheet timed ++ ((14 at shortSheet (movesOn sheet) out) ∷ []))
+
+abbrev pub retimingReply : List ℕ → List ℕ → List ℕ → List ℕ → Reply
+retimingReply map order sheet out =
+    firstOf (retimingTests map order sheet out (timing false map (orderOf order) sheet))
+    (succeeded (movesOn sheet) (arrivalOf (timing false map (orderOf order) sheet)))
+
+-- the same moves with true figures, N copied
+abbrev pub retimedTo : Heading → Walk → List ℕ → List ℕ
+retimedTo heading (refused number move) out = out
+retimedTo heading (reached s rows) out =
+    sheetAfter
+    (record {
+      moves = heading .moves;
+      arrival = s .clock .0;
+      spell = s .spell .0;
+      shift = s .shift .0;
+      labels = heading .labels;
+    })
+    rows
+    out
+
+abbrev pub pick : Bool → List ℕ → List ℕ → List ℕ
+pick true a b = a
+pick false a b = b
+
+-- the other sheet afterwards: a refusal leaves it
+abbrev pub retimedSheet : List ℕ → List ℕ → List ℕ → List ℕ → List ℕ
+retimedSheet map order sheet out =
+    pick (eqb (retimingReply map order sheet out .number) 0)
+    (retimedTo (headingOf sheet) (timing false map (orderOf order) sheet) out)
+    out
+
+-- 18 false figure in the header: arrival, spell or shift; M + 1
+unfoldable pub falseFigures : Heading → State → Bool
+falseFigures heading s =
+    not (eqb (heading .arrival) (s .clock .0))
+    || (not (eqb (heading .spell) (s .spell .0)) || not (eqb (heading .shift) (s .shift .0)))
+
+abbrev pub falseHeader : Heading → Walk → Option ℕ
+falseHeader heading (refused number move) = none
+falseHeader heading (reached s rows) = placed (falseFigures heading s) (heading .moves + 1)
+
+-- audit: the same without 14, with 18 after 17 in each move and for the header last
+abbrev pub auditTests : List ℕ → List ℕ → List ℕ → Walk → List Test
+auditTests map order sheet timed =
+    runTests map order
+    ++ (sheetTests (orderOf order) sheet timed ++ ((18 at falseHeader (headingOf sheet) timed) ∷ []))
+
+abbrev pub auditReply : List ℕ → List ℕ → List ℕ → Reply
+auditReply map order sheet =
+    firstOf (auditTests map order sheet (timing true map (orderOf order) sheet))
+    (succeeded (movesOn sheet) (arrivalOf (timing true map (orderOf order) sheet)))

@@ -1,0 +1,113 @@
+-- Records written one by one, from the front or from the back, and the header: together they are the sheet afterwards.
+-- Assumes nothing.
+use mathlib.Core.Path.{_≡_, _∙_, refl, sym}
+use mathlib.Core.List.{List, [], _∷_, _++_, append-assoc, append-nil}
+use Prim.Native.Nat.{ℕ, suc, _+_, _*_, _-_, _≤_, _<_}
+use native.Mathlib.Numerals.{add-one}
+use native.Mathlib.Nat.{add-zero, zero-add}
+use native.Mathlib.Omega.{arith}
+use lib.ListN.{length, take, drop, getD, length-append, length-drop, take-append-drop}
+use lib.Seq.{length-take-le, take-length, drop-length, take-suc, drop-cons}
+use Rattle.sheets.specs.declared.Heading.{Heading}
+use Rattle.sheets.specs.declared.Row.{Row}
+use Rattle.sheets.specs.Sheet.{headingBytes, rowBytes, rowsBytes, sheetNeeded, sheetAfter, withHeading, withRow}
+use Rattle.sheets.specs.Written.{rowsFrom, forward, backward}
+use Rattle.sheets.proofs.Splice.{length-splice, splice-next, splice-before}
+use Rattle.sheets.proofs.Bytes.{length-row, length-rows, length-heading}
+
+pub length-with-heading : (s : List ℕ) (h : Heading) → 20 ≤ length s → length (withHeading s h) ≡ length s
+length-with-heading s h fits = length-splice s (headingBytes h) 0 20 (rw length-heading) fits
+
+pub length-with-row : (s : List ℕ) (k : ℕ) (row : Row) → 1 ≤ k → sheetNeeded k ≤ length s → length (withRow s k row) ≡ length s
+length-with-row s k row low fits =
+    length-splice s (rowBytes row) (20 + 12 * (k - 1)) (20 + 12 * k) (rw length-row (omega arith)) fits
+
+pub length-from : (n : ℕ) (rows : List Row) (s : List ℕ) → sheetNeeded (n + length rows) ≤ length s → length (rowsFrom n rows s) ≡ length s
+unfolding rowsFrom
+length-from n rows s fits =
+    length-splice s (rowsBytes rows) (20 + 12 * n) (20 + 12 * (n + length rows)) (rw length-rows (omega arith)) fits
+
+pub none-from : (n : ℕ) (s : List ℕ) → rowsFrom n [] s ≡ s
+unfolding rowsFrom rowsBytes
+none-from n s = simp (add-zero, append-nil, take-append-drop)
+
+rows-snoc : (rows : List Row) (row : Row) → rowsBytes (rows ++ (row ∷ [])) ≡ rowsBytes rows ++ rowBytes row
+unfolding rowsBytes
+rows-snoc [] row = append-nil (rowBytes row)
+rows-snoc (first ∷ rows) row = rw (rows-snoc rows row, append-assoc)
+
+-- one record more behind them: record j
+pub row-behind : (n : ℕ) (rows : List Row) (s : List ℕ) (j : ℕ) (row : Row) → j ≡ n + length rows + 1 → sheetNeeded j ≤ length s → withRow (rowsFrom n rows s) j row ≡ rowsFrom n (rows ++ (row ∷ [])) s
+unfolding rowsFrom
+row-behind n rows s j row next fits =
+    let front : 20 + 12 * (j - 1) ≡ 20 + 12 * (n + length rows) = omega arith in
+    let end : n + (length rows + 1) ≡ j = omega arith in
+    rw (rows-snoc rows row, length-append rows (row ∷ []), end, front)
+    (splice-next s (rowsBytes rows) (rowBytes row) (20 + 12 * n) (20 + 12 * (n + length rows)) (20 + 12 * j) (rw length-rows (omega arith)) (rw length-row (omega arith)) fits)
+
+-- one record more before them: record j
+pub row-before : (n : ℕ) (rows : List Row) (s : List ℕ) (j : ℕ) (row : Row) → j ≡ n + 1 → sheetNeeded (j + length rows) ≤ length s → withRow (rowsFrom j rows s) j row ≡ rowsFrom n (row ∷ rows) s
+unfolding rowsFrom rowsBytes
+row-before n rows s j row next fits =
+    let front : 20 + 12 * (j - 1) ≡ 20 + 12 * n = omega arith in
+    let end : n + suc (length rows) ≡ j + length rows = omega arith in
+    rw (end, front)
+    (splice-before s (rowBytes row) (rowsBytes rows) (20 + 12 * n) (20 + 12 * j) (20 + 12 * (j + length rows)) (rw length-row (omega arith)) (rw length-rows (omega arith)) fits)
+
+module _ (h : Heading) (rows : List Row) (s : List ℕ) (fits : sheetNeeded (length rows) ≤ length s) where
+  -- the header after all records
+  pub heading-last : withHeading (rowsFrom 0 rows s) h ≡ sheetAfter h rows s
+  unfolding rowsFrom sheetAfter
+  heading-last =
+      rw (zero-add (length rows))
+      (splice-before s (headingBytes h) (rowsBytes rows) 0 20 (20 + 12 * length rows) (rw length-heading) (rw length-rows) fits)
+
+  -- the header before them
+  pub heading-first : rowsFrom 0 rows (withHeading s h) ≡ sheetAfter h rows s
+  unfolding rowsFrom sheetAfter
+  heading-first =
+      rw (zero-add (length rows))
+      (splice-next s (headingBytes h) (rowsBytes rows) 0 20 (20 + 12 * length rows) (rw length-heading) (rw length-rows) fits)
+
+pub forward-from : (rows : List Row) (k : ℕ) (s : List ℕ) → k ≤ length rows → forward rows k s ≡ rowsFrom 0 (take k rows) s
+unfolding forward rowsFrom
+forward-from rows k s most = rw (length-take-le k rows most, zero-add k)
+
+pub forward-start : (rows : List Row) (s : List ℕ) → forward rows 0 s ≡ s
+forward-start rows s = forward-from rows 0 s (omega arith) ∙ none-from 0 s
+
+pub length-forward : (rows : List Row) (k : ℕ) (s : List ℕ) → k ≤ length rows → sheetNeeded k ≤ length s → length (forward rows k s) ≡ length s
+length-forward rows k s most fits =
+    rw (forward-from rows k s most)
+    (length-from 0 (take k rows) s (rw (length-take-le k rows most, zero-add k) fits))
+
+pub forward-step : (rows : List Row) (k : ℕ) (s : List ℕ) (d : Row) → k < length rows → sheetNeeded (k + 1) ≤ length s → withRow (forward rows k s) (k + 1) (getD rows k d) ≡ forward rows (k + 1) s
+forward-step rows k s d more fits =
+    rw (forward-from rows k s (omega arith), forward-from rows (k + 1) s (omega arith), add-one k, take-suc rows k d more)
+    (row-behind 0 (take k rows) s (suc k) (getD rows k d) (rw (length-take-le k rows (omega arith)) (omega arith)) (omega arith))
+
+pub forward-end : (h : Heading) (rows : List Row) (s : List ℕ) → sheetNeeded (length rows) ≤ length s → withHeading (forward rows (length rows) s) h ≡ sheetAfter h rows s
+forward-end h rows s fits =
+    rw (forward-from rows (length rows) s (omega arith), take-length rows) (heading-last h rows s fits)
+
+pub backward-from : (rows : List Row) (k : ℕ) (s : List ℕ) → k ≤ length rows → backward rows k s ≡ rowsFrom k (drop k rows) s
+unfolding backward rowsFrom
+backward-from rows k s most =
+    let end : k + (length rows - k) ≡ length rows = omega arith in
+    rw (length-drop k rows, end)
+
+pub backward-start : (rows : List Row) (s : List ℕ) → backward rows (length rows) s ≡ s
+backward-start rows s =
+    rw (backward-from rows (length rows) s (omega arith), drop-length rows) (none-from (length rows) s)
+
+pub length-backward : (rows : List Row) (k : ℕ) (s : List ℕ) → k ≤ length rows → sheetNeeded (length rows) ≤ length s → length (backward rows k s) ≡ length s
+length-backward rows k s most fits =
+    rw (backward-from rows k s most) (length-from k (drop k rows) s (rw (length-drop k rows) (omega arith)))
+
+pub backward-step : (rows : List Row) (k : ℕ) (s : List ℕ) (d : Row) → k < length rows → sheetNeeded (length rows) ≤ length s → withRow (backward rows (k + 1) s) (k + 1) (getD rows k d) ≡ backward rows k s
+backward-step rows k s d more fits =
+    rw (backward-from rows k s (omega arith), backward-from rows (k + 1) s (omega arith), drop-cons rows k d more)
+    (rw (sym (add-one k)) (row-before k (drop (k + 1) rows) s (k + 1) (getD rows k d) refl (rw (length-drop (k + 1) rows) (omega arith))))
+
+pub backward-end : (h : Heading) (rows : List Row) (s : List ℕ) → sheetNeeded (length rows) ≤ length s → withHeading (backward rows 0 s) h ≡ sheetAfter h rows s
+backward-end h rows s fits = rw (backward-from rows 0 s (omega arith)) (heading-last h rows s fits)

@@ -1,0 +1,85 @@
+-- The plan sheet: its format, what is read from it and what is written to it, and refusal 15.
+-- Document 01, "Plan sheet" and "Replies". Assumes nothing.
+use mathlib.Core.Bool.{Bool, not, _||_}
+use mathlib.Core.List.{List, [], _∷_, _++_}
+use mathlib.Core.Option.{Option}
+use Prim.Native.Nat.{ℕ, zero, suc, _+_, _*_, _-_, _/_, _%_}
+use lib.Dec.{ltb, eqb}
+use lib.ListN.{length, take, drop}
+use Rattle.words.specs.Word.{wordAt}
+use Rattle.replies.specs.First.{placed}
+use Rattle.sheets.specs.declared.Heading.{Heading}
+use Rattle.sheets.specs.declared.Row.{Row}
+
+-- the four bytes of a word, the lowest first
+unfoldable pub wordBytes : ℕ → List ℕ
+wordBytes w = w % 256 ∷ w / 256 % 256 ∷ w / 65536 % 256 ∷ w / 16777216 ∷ []
+
+-- the header, five words: moves M, arrival, spell, shift, N
+unfoldable pub headingBytes : Heading → List ℕ
+headingBytes h =
+    wordBytes (h .moves) ++ wordBytes (h .arrival) ++ wordBytes (h .spell) ++ wordBytes (h .shift) ++ wordBytes (h .labels)
+
+abbrev pub headingOf : List ℕ → Heading
+headingOf sheet =
+    record {
+      moves = wordAt sheet 0;
+      arrival = wordAt sheet 4;
+      spell = wordAt sheet 8;
+      shift = wordAt sheet 12;
+      labels = wordAt sheet 16;
+    }
+
+-- then M records of three words: kind, number, clock after
+unfoldable pub rowBytes : Row → List ℕ
+rowBytes row = wordBytes (row .kind) ++ wordBytes (row .number) ++ wordBytes (row .clock)
+
+unfoldable pub rowsBytes : List Row → List ℕ
+rowsBytes [] = []
+rowsBytes (row ∷ rows) = rowBytes row ++ rowsBytes rows
+
+-- record k, counted from 1
+abbrev pub rowAt : List ℕ → ℕ → Row
+rowAt sheet k =
+    record {
+      kind = wordAt sheet (20 + 12 * (k - 1));
+      number = wordAt sheet (20 + 12 * (k - 1) + 4);
+      clock = wordAt sheet (20 + 12 * (k - 1) + 8);
+    }
+
+-- the n records from number k on
+unfoldable pub rowsOf : List ℕ → ℕ → ℕ → List Row
+rowsOf sheet k zero = []
+rowsOf sheet k (suc n) = rowAt sheet k ∷ rowsOf sheet (k + 1) n
+
+-- the bytes of a sheet of m moves
+abbrev pub sheetNeeded : ℕ → ℕ
+sheetNeeded m = 20 + 12 * m
+
+abbrev pub mostMoves : ℕ
+mostMoves = 999999
+
+-- the sheet afterwards: bytes after 20 + 12M stay
+unfoldable pub sheetAfter : Heading → List Row → List ℕ → List ℕ
+sheetAfter h rows before = headingBytes h ++ rowsBytes rows ++ drop (sheetNeeded (length rows)) before
+
+-- the sheet with its header alone written
+abbrev pub withHeading : List ℕ → Heading → List ℕ
+withHeading sheet h = headingBytes h ++ drop 20 sheet
+
+-- the part of the sheet behind its header, with record k alone written
+abbrev pub withRowBehind : List ℕ → ℕ → Row → List ℕ
+withRowBehind part k row = take (12 * (k - 1)) part ++ rowBytes row ++ drop (12 * k) part
+
+-- the sheet with record k alone written
+abbrev pub withRow : List ℕ → ℕ → Row → List ℕ
+withRow sheet k row = take (20 + 12 * (k - 1)) sheet ++ rowBytes row ++ drop (20 + 12 * k) sheet
+
+-- 15 torn sheet: under 20, M above 999,999, or not 20 + 12M; length
+unfoldable pub torn : List ℕ → Bool
+torn sheet =
+    ltb (length sheet) 20
+    || (ltb mostMoves (headingOf sheet .moves) || not (eqb (length sheet) (sheetNeeded (headingOf sheet .moves))))
+
+abbrev pub tornSheet : List ℕ → Option ℕ
+tornSheet sheet = placed (torn sheet) (length sheet)

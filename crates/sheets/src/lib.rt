@@ -1,0 +1,98 @@
+// The plan sheet: five words of header, then records of three words. A move's record is written
+// into the part of the sheet behind its header.
+ghost use mathlib.Core.Path.{_≡_};
+ghost use Prim.Native.Nat.{_+_, _*_, _≤_};
+ghost use lib.ListN.{length};
+ghost use Rattle.sheets.specs.Sheet.{headingOf, rowAt, torn, withHeading, withRowBehind, withRow};
+use words::put_word;
+use words::word;
+
+// The header's five words.
+pub struct Heading {
+    pub moves: u32,
+    pub arrival: u32,
+    pub spell: u32,
+    pub shift: u32,
+    pub labels: u32,
+}
+
+impl Heading {
+    pub const MOST_MOVES: u32 = 999999;
+}
+
+// A move's three words: its kind, the road number or pausing junction, the clock after it.
+pub struct Row {
+    pub kind: u32,
+    pub number: u32,
+    pub clock: u32,
+}
+
+pub fn read_heading(sheet: &[u8]) -> Heading
+    requires { ⌜ 20 ≤ length (now sheet) ⌝ }
+    ensures { λ r. ⌜ r ≡ headingOf (now (sheet .entry)) ⌝ }
+{
+    Heading {
+        moves: word(sheet, 0),
+        arrival: word(sheet, 4),
+        spell: word(sheet, 8),
+        shift: word(sheet, 12),
+        labels: word(sheet, 16),
+    }
+}
+
+// Record k, counted from 1.
+pub fn read_row(sheet: &[u8], k: usize) -> Row
+    requires { ⌜ (1 ≤ k) × (20 + 12 * k ≤ length (now sheet)) ⌝ }
+    ensures { λ r. ⌜ r ≡ rowAt (now (sheet .entry)) k ⌝ }
+{
+    let at = 20 + 12 * (k - 1);
+    Row {
+        kind: word(sheet, at),
+        number: word(sheet, at + 4),
+        clock: word(sheet, at + 8),
+    }
+}
+
+// Refusal 15.
+pub fn is_torn(sheet: &[u8]) -> bool
+    ensures { λ r. ⌜ r ≡ torn (now (sheet .entry)) ⌝ }
+{
+    if sheet.len() < 20 {
+        return true;
+    }
+    let moves = word(sheet, 0);
+    if Heading::MOST_MOVES < moves {
+        return true;
+    }
+    sheet.len() != 20 + 12 * (moves as usize)
+}
+
+pub fn put_heading(sheet: &mut [u8], heading: Heading)
+    requires { ⌜ 20 ≤ length (now sheet) ⌝ }
+    ensures { λ _. ⌜ now (sheet .exit) ≡ withHeading (now (sheet .entry)) heading ⌝ }
+{
+    put_word(sheet, 0, heading.moves);
+    put_word(sheet, 4, heading.arrival);
+    put_word(sheet, 8, heading.spell);
+    put_word(sheet, 12, heading.shift);
+    put_word(sheet, 16, heading.labels);
+}
+
+// Writes record k, counted from 1, into the part of a sheet behind its header.
+pub fn put_row(part: &mut [u8], k: usize, row: Row)
+    requires { ⌜ (1 ≤ k) × (12 * k ≤ length (now part)) ⌝ }
+    ensures { λ _. ⌜ now (part .exit) ≡ withRowBehind (now (part .entry)) k row ⌝ }
+{
+    let at = 12 * (k - 1);
+    put_word(part, at, row.kind);
+    put_word(part, at + 4, row.number);
+    put_word(part, at + 8, row.clock);
+}
+
+// Writes record k, counted from 1, into a sheet.
+pub fn write_row(sheet: &mut [u8], k: usize, row: Row)
+    requires { ⌜ (1 ≤ k) × (20 + 12 * k ≤ length (now sheet)) ⌝ }
+    ensures { λ _. ⌜ now (sheet .exit) ≡ withRow (now (sheet .entry)) k row ⌝ }
+{
+    put_row(&mut sheet[20..], k, row);
+}
