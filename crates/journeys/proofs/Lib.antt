@@ -1,0 +1,14 @@
+-- The laws and theorems of planning.
+-- Assumes nothing.
+pub mod Ranked
+pub mod Journeys
+pub mod Laws
+pub mod Labels
+pub mod ParentMove
+pub mod Plan
+pub mod Rows
+pub mod Planning
+pub mod Endings
+pub mod Compared
+pub mod Runs
+pub mod Worked

@@ -1,0 +1,97 @@
+-- Two runs compared by their bytes: an easier run eases the other as the laws of the moves ask. Assumes nothing.
+use mathlib.Core.Path.{_≡_, refl, sym, ap, subst, _∙_}
+use mathlib.Core.Bool.{Bool, true, false}
+use mathlib.Core.List.{List}
+use mathlib.Core.Logic.{⊎-elim}
+use mathlib.Core.Option.{Option, some}
+use Prim.Native.Nat.{ℕ, zero, suc, _+_, _-_, _≤_, _<_}
+use native.Mathlib.Omega.{arith}
+use borrow.Author.Tests.{ltb-true, ltb-false, eqb-true, eq-eqb}
+use lib.Dec.{eqb, ltb}
+use lib.ListN.{length, getD, List·getD-eq-default}
+use Rattle.replies.specs.First.{NoneFits}
+use Rattle.replies.proofs.First.{cases, not-both}
+use Rattle.roadmap.specs.Format.{junctionCount, roadCount, carPark}
+use Rattle.mapcheck.specs.MapCheck.{AcceptedMap}
+use Rattle.driving.specs.Order.{orderOf, orderTests}
+use Rattle.moves.specs.declared.State.{State}
+use Rattle.moves.specs.Trip.{Trip, Stretch, tripOf, stretchOf, roadIn, parkIn, roadsIn, junctionsIn}
+use Rattle.moves.specs.Compared.{Slack, EasesRules, Eases}
+use Rattle.moves.proofs.Trips.{roads-in, junctions-in, order-in, road-in, park-in}
+use Rattle.journeys.specs.Journeys.{startIn}
+use Rattle.journeys.specs.Labels.{answerIn}
+use Rattle.journeys.specs.Planning.{tripFrom}
+use Rattle.journeys.specs.Compared.{SharedRoads, SharedTrip, EasierMap, EasierOrder, EasierRun}
+use Rattle.journeys.proofs.Planning.{accepted-sound}
+use Rattle.journeys.proofs.Compared.{EasedAnswer, eased-answer}
+
+module _ (mapB orderB mapA orderA : List ℕ) (easier : EasierRun mapB orderB mapA orderA) where
+  within : (r : ℕ) → r ≤ roadsIn (tripFrom mapA orderA) → r ≤ roadCount mapA
+  within r high = rw (roads-in mapA (orderOf orderA)) at high
+
+  road-b : (r : ℕ) → 1 ≤ r → r ≤ roadsIn (tripFrom mapA orderA) → roadIn (tripFrom mapB orderB) r ≡ stretchOf mapB r
+  road-b r low high = road-in mapB (orderOf orderB) r low (omega (arith, within r high, easier .roads .roads))
+
+  road-a : (r : ℕ) → 1 ≤ r → r ≤ roadsIn (tripFrom mapA orderA) → roadIn (tripFrom mapA orderA) r ≡ stretchOf mapA r
+  road-a r low high = road-in mapA (orderOf orderA) r low (within r high)
+
+  -- a car park of A's record is one of B's; junction 0 stands for junction 1 in both, and beyond the last there is none
+  park-b : (j : ℕ) → 1 ≤ j → parkIn (tripFrom mapA orderA) j ≡ true → parkIn (tripFrom mapB orderB) j ≡ true
+  park-b j low e =
+      ⊎-elim
+      (λ (beyond : ltb (junctionCount mapA) j ≡ true).
+      absurd (not-both e (List·getD-eq-default (tripFrom mapA orderA .parks) false
+      (omega (arith, ltb-true (junctionCount mapA) j beyond, junctions-in mapA (orderOf orderA))))))
+      (λ (inside : ltb (junctionCount mapA) j ≡ false).
+      let high = ltb-false (junctionCount mapA) j inside in
+      let is-a : eqb (carPark mapA j) 1 ≡ true = sym (park-in mapA (orderOf orderA) j low high) ∙ e in
+      park-in mapB (orderOf orderB) j low (omega (arith, high, easier .roads .junctions))
+      ∙ eq-eqb (carPark mapB j) 1 (easier .map .parks j low high (eqb-true (carPark mapA j) 1 is-a)))
+      (cases (ltb (junctionCount mapA) j))
+
+  park-any : (j : ℕ) → parkIn (tripFrom mapA orderA) j ≡ true → parkIn (tripFrom mapB orderB) j ≡ true
+  park-any zero e = park-b 1 (omega arith) e
+  park-any (suc j) e = park-b (suc j) (omega arith) e
+
+  pub run-eases : Eases (tripFrom mapB orderB) (tripFrom mapA orderA)
+  unfolding tripOf
+  run-eases =
+      record {
+        junctions = junctions-in mapB (orderOf orderB) ∙ easier .roads .junctions ∙ sym (junctions-in mapA (orderOf orderA));
+        roads = roads-in mapB (orderOf orderB) ∙ easier .roads .roads ∙ sym (roads-in mapA (orderOf orderA));
+        from = λ r low high.
+            ap (λ (s : Stretch). s .from) (road-b r low high) ∙ easier .roads .from r low (within r high) ∙ sym (ap (λ (s : Stretch). s .from) (road-a r low high));
+        to = λ r low high.
+            ap (λ (s : Stretch). s .to) (road-b r low high) ∙ easier .roads .to r low (within r high) ∙ sym (ap (λ (s : Stretch). s .to) (road-a r low high));
+        seconds = λ r low high.
+            omega (arith, ap (λ (s : Stretch). s .seconds) (road-b r low high), ap (λ (s : Stretch). s .seconds) (road-a r low high), easier .map .seconds r low (within r high));
+        parks = park-any;
+        latest = easier .trip .latest;
+        rules =
+            record {
+              spell-limit = easier .order .spell-limit;
+              shift-limit = easier .order .shift-limit;
+              break-time = easier .order .break-time;
+              rest-time = easier .order .rest-time;
+            };
+      }
+
+  pub run-starts : Slack 0 (startIn (tripFrom mapB orderB)) (startIn (tripFrom mapA orderA))
+  unfolding tripOf
+  run-starts =
+      record {
+        same = easier .trip .source;
+        clock = omega (arith, easier .trip .departure);
+        spell = omega (arith, easier .order .spell);
+        shift = omega (arith, easier .order .shift);
+      }
+
+  pub run-targets : tripFrom mapB orderB .order .target ≡ tripFrom mapA orderA .order .target
+  unfolding tripOf
+  run-targets = easier .trip .target
+
+  module _ (map-a : AcceptedMap mapA) (order-a : NoneFits (orderTests (junctionCount mapA) orderA))
+      (map-b : AcceptedMap mapB) (order-b : NoneFits (orderTests (junctionCount mapB) orderB)) where
+    -- of accepted runs, where A has an answer
+    pub run-answer : {a : State} → answerIn (tripFrom mapA orderA) ≡ some a → EasedAnswer (tripFrom mapB orderB) (tripFrom mapA orderA) a
+    run-answer e = eased-answer (tripFrom mapB orderB) (tripFrom mapA orderA) run-eases run-starts run-targets (accepted-sound mapA orderA map-a order-a) (accepted-sound mapB orderB map-b order-b) e

@@ -1,0 +1,88 @@
+-- Small worked trips beside document 01's, computed from the definitions: ties between moves, parents and ranks, a pause at source,
+-- and source equal to target. Assumes nothing.
+use mathlib.Core.Bool.{Bool, true, false, _&&_}
+use mathlib.Core.List.{List, [], _∷_}
+use Prim.Native.Nat.{ℕ}
+use lib.Dec.{T, eqb}
+use Rattle.replies.specs.declared.Reply.{Reply}
+use Rattle.replies.specs.Told.{succeeded}
+use Rattle.driving.specs.Order.{europeanRules}
+use Rattle.moves.specs.Trip.{Stretch, Trip}
+use Rattle.theory.specs.Lists.{every}
+use Rattle.journeys.specs.Labels.{answerIn, labelsIn}
+use Rattle.journeys.specs.Plan.{PlanRow, planMoves, planRows}
+use Rattle.journeys.specs.Planning.{searchReply}
+use Rattle.journeys.specs.Starred.{row, sameReply, sameRows}
+
+-- a trip by the European rules, departure 0, latest 3,000, with this reply (100 labels fit, the sheet has 100 bytes) and these rows
+record Worked : Type 0 where
+  trip : Trip
+  reply : Reply
+  rows : List PlanRow
+
+abbrev road : ℕ → ℕ → ℕ → Stretch
+road from to seconds = record { from = from; to = to; seconds = seconds }
+
+-- from source to target, with this spell and shift
+abbrev tripBy : List Stretch → List Bool → ℕ → ℕ → ℕ → Trip
+tripBy roads parks source target spell =
+    record {
+      roads = roads;
+      parks = parks;
+      order =
+          record {
+            source = source;
+            target = target;
+            departure = record { 0 = 0 };
+            latest = record { 0 = 3000 };
+            figures = record { spell = record { 0 = spell }; shift = record { 0 = spell } };
+            rules = europeanRules;
+          };
+    }
+
+works : Worked → Bool
+unfolding searchReply answerIn labelsIn planMoves planRows
+works w = sameReply (searchReply (w .trip) 100 100) (w .reply) && sameRows (planRows (w .trip)) (w .rows)
+
+abbrev cases : List Worked
+cases =
+    -- of two equal roads the lower number
+    record {
+      trip = tripBy (road 2 1 9 ∷ road 1 2 50 ∷ road 1 2 50 ∷ []) (false ∷ false ∷ []) 1 2 0;
+      reply = succeeded 2 50;
+      rows = row 1 2 50 ∷ [];
+    }
+    -- the start is the parent, not the junction on the way that leads there too
+    ∷ record {
+      trip = tripBy (road 1 2 30 ∷ road 2 3 20 ∷ road 1 3 50 ∷ []) (false ∷ false ∷ false ∷ []) 1 3 0;
+      reply = succeeded 3 50;
+      rows = row 1 3 50 ∷ [];
+    }
+    -- of equal figures the lower junction ranks lower: counted before target 3, not before target 2
+    ∷ record {
+      trip = tripBy (road 1 2 50 ∷ road 1 3 50 ∷ []) (false ∷ false ∷ false ∷ []) 1 3 0;
+      reply = succeeded 3 50;
+      rows = row 1 2 50 ∷ [];
+    }
+    ∷ record {
+      trip = tripBy (road 1 2 50 ∷ road 1 3 50 ∷ []) (false ∷ false ∷ false ∷ []) 1 2 0;
+      reply = succeeded 2 50;
+      rows = row 1 1 50 ∷ [];
+    }
+    -- a tired driver pauses at source
+    ∷ record {
+      trip = tripBy (road 1 2 100 ∷ []) (true ∷ false ∷ []) 1 2 16200;
+      reply = succeeded 3 2800;
+      rows = row 2 1 2700 ∷ row 1 1 2800 ∷ [];
+    }
+    -- source equal to target
+    ∷ record {
+      trip = tripBy (road 1 2 100 ∷ road 2 1 100 ∷ []) (true ∷ true ∷ []) 1 1 0;
+      reply = succeeded 1 0;
+      rows = [];
+    }
+    ∷ []
+
+worked : T (every works cases)
+unfolding every works
+worked = tt

@@ -1,0 +1,42 @@
+-- Two runs compared, by their bytes. Document 01, "Two runs compared". Assumes nothing.
+use mathlib.Core.Path.{_≡_}
+use mathlib.Core.List.{List}
+use Prim.Native.Nat.{ℕ, _≤_}
+use Rattle.roadmap.specs.Format.{junctionCount, roadCount, carPark, roadFrom, roadTo}
+use Rattle.driving.specs.Order.{orderWord}
+use Rattle.moves.specs.Trip.{stretchOf}
+
+-- two runs share the junctions and the roads' numbers and ends: J and R are equal, and each road number has the same from and to
+pub record SharedRoads (b a : List ℕ) : Type 0 where
+  pub junctions : junctionCount b ≡ junctionCount a
+  pub roads : roadCount b ≡ roadCount a
+  pub from : (r : ℕ) → 1 ≤ r → r ≤ roadCount a → roadFrom b r ≡ roadFrom a r
+  pub to : (r : ℕ) → 1 ≤ r → r ≤ roadCount a → roadTo b r ≡ roadTo a r
+
+-- the same trip: source, target, departure and latest arrival
+pub record SharedTrip (b a : List ℕ) : Type 0 where
+  pub source : orderWord b 0 ≡ orderWord a 0
+  pub target : orderWord b 1 ≡ orderWord a 1
+  pub departure : orderWord b 2 ≡ orderWord a 2
+  pub latest : orderWord b 3 ≡ orderWord a 3
+
+-- in B no road takes longer, and each car park of A is one
+pub record EasierMap (b a : List ℕ) : Type 0 where
+  pub seconds : (r : ℕ) → 1 ≤ r → r ≤ roadCount a → stretchOf b r .seconds ≤ stretchOf a r .seconds
+  pub parks : (j : ℕ) → 1 ≤ j → j ≤ junctionCount a → carPark a j ≡ 1 → carPark b j ≡ 1
+
+-- in B no starting figure is higher, no limit lower, and no break or rest longer
+pub record EasierOrder (b a : List ℕ) : Type 0 where
+  pub spell : orderWord b 4 ≤ orderWord a 4
+  pub shift : orderWord b 5 ≤ orderWord a 5
+  pub spell-limit : orderWord a 6 ≤ orderWord b 6
+  pub break-time : orderWord b 7 ≤ orderWord a 7
+  pub shift-limit : orderWord a 8 ≤ orderWord b 8
+  pub rest-time : orderWord b 9 ≤ orderWord a 9
+
+-- nothing is worse in B
+pub record EasierRun (mapB orderB mapA orderA : List ℕ) : Type 0 where
+  pub roads : SharedRoads mapB mapA
+  pub trip : SharedTrip orderB orderA
+  pub map : EasierMap mapB mapA
+  pub order : EasierOrder orderB orderA

@@ -1,0 +1,65 @@
+-- The reply of planning, for every input. Document 01, "Replies". Assumes nothing.
+use mathlib.Core.Bool.{Bool, true, false}
+use mathlib.Core.List.{List, [], _∷_, _++_}
+use mathlib.Core.Option.{Option, none, some}
+use Prim.Native.Nat.{ℕ, _/_, min}
+use lib.Dec.{ltb}
+use Rattle.replies.specs.declared.Reply.{Reply}
+use Rattle.replies.specs.Told.{succeeded}
+use Rattle.replies.specs.First.{Test, _at_, placed, firstOf}
+use Rattle.roadmap.specs.Format.{junctionCount}
+use Rattle.mapcheck.specs.MapCheck.{mapTests}
+use Rattle.driving.specs.Order.{orderOf, orderTests}
+use Rattle.moves.specs.declared.State.{State}
+use Rattle.moves.specs.Trip.{Trip, tripOf}
+use Rattle.journeys.specs.Labels.{answerIn, labelCount}
+use Rattle.journeys.specs.Plan.{bytesNeeded}
+
+-- the labels that fit are the smaller of 1,000,000 and the whole labels in the run; eight words make one label
+abbrev pub labelsThatFit : ℕ → ℕ
+labelsThatFit words = min 1000000 (words / 8)
+
+abbrev pub isNone : Option State → Bool
+isNone none = true
+isNone (some a) = false
+
+-- refusal 12, full: N above labels that fit
+abbrev pub full : Trip → ℕ → Option ℕ
+full trip fit = placed (ltb fit (labelCount trip)) fit
+
+-- refusal 13, no road: no legal journey
+abbrev pub noRoad : Trip → Option ℕ
+noRoad trip = placed (isNone (answerIn trip)) (labelCount trip)
+
+-- refusal 14, short sheet: under 20 + 12M
+abbrev pub shortSheet : Trip → ℕ → Option ℕ
+shortSheet trip sheet = placed (ltb sheet (bytesNeeded trip)) (bytesNeeded trip)
+
+-- 12 to 14, with the labels that fit and the sheet's length
+abbrev pub searchTests : Trip → ℕ → ℕ → List Test
+searchTests trip fit sheet = (12 at full trip fit) ∷ (13 at noRoad trip) ∷ (14 at shortSheet trip sheet) ∷ []
+
+abbrev pub arrivalOf : Option State → ℕ
+arrivalOf none = 0
+arrivalOf (some a) = a .clock .0
+
+-- planned: 0, N, arrival
+abbrev pub planned : Trip → Reply
+planned trip = succeeded (labelCount trip) (arrivalOf (answerIn trip))
+
+abbrev pub tripFrom : List ℕ → List ℕ → Trip
+tripFrom map order = tripOf map (orderOf order)
+
+-- what planning says of an accepted map and order
+unfoldable pub searchReply : Trip → ℕ → ℕ → Reply
+unfolding firstOf
+searchReply trip fit sheet = firstOf (searchTests trip fit sheet) (planned trip)
+
+-- planning checks 1 to 14 in order
+abbrev pub planTests : List ℕ → List ℕ → ℕ → ℕ → List Test
+planTests map order fit sheet =
+    mapTests map ++ (orderTests (junctionCount map) order ++ searchTests (tripFrom map order) fit sheet)
+
+unfoldable pub planReply : List ℕ → List ℕ → ℕ → ℕ → Reply
+unfolding firstOf
+planReply map order fit sheet = firstOf (planTests map order fit sheet) (planned (tripFrom map order))

@@ -1,0 +1,119 @@
+-- The starred trial trips of document 01, proved together: antt computes one test. Assumes nothing.
+use mathlib.Core.Bool.{Bool, true, false, not, _&&_}
+use mathlib.Core.List.{List, [], _∷_, _++_}
+use mathlib.Core.Option.{Option, none, some}
+use Prim.Native.Nat.{ℕ, _/_, _%_}
+use lib.Dec.{T, eqb}
+use Rattle.words.specs.Word.{wordAt}
+use Rattle.replies.specs.declared.Reply.{Reply}
+use Rattle.replies.specs.Told.{succeeded, refusedAt}
+use Rattle.replies.specs.First.{lowest}
+use Rattle.roadmap.specs.RoadTime.{roadSeconds}
+use Rattle.roadmap.specs.Format.{format, junctionCount, roadCount, nameBytes, junctionWord, roadWord}
+use Rattle.mapcheck.specs.MapCheck.{oversize, outside, badJunctionAt, badRoadAt, badLetterAt}
+use Rattle.mapcheck.specs.Chain.{brokenChainAt, among, chainFrom}
+use Rattle.driving.specs.Order.{firstBroken, badRules, badTrip}
+use Rattle.moves.specs.declared.State.{State}
+use Rattle.moves.specs.Trip.{Trip, tripOf}
+use Rattle.moves.specs.Moves.{move, after, legal}
+use Rattle.theory.specs.Lists.{every}
+use Rattle.journeys.specs.Ranked.{sameState, covers, dominatesState}
+use Rattle.journeys.specs.Labels.{answerIn, labelsIn}
+use Rattle.journeys.specs.Plan.{planMoves, PlanRow, planRows}
+use Rattle.journeys.specs.Planning.{planReply, tripFrom}
+
+-- the bytes of a list of words, little-endian
+abbrev pub spelled : List ℕ → List ℕ
+spelled [] = []
+spelled (w ∷ ws) = w % 256 ∷ w / 256 % 256 ∷ w / 65536 % 256 ∷ w / 16777216 ∷ spelled ws
+
+-- map T: Hub 1, Lay 2 (car park), End 3; roads 1 from 1 to 2, 2 from 2 to 3, 3 from 1 to 3
+abbrev pub mapT : List ℕ
+mapT =
+    spelled (1 ∷ 3 ∷ 3 ∷ 9 ∷ [])
+    ++ (spelled (1 ∷ 0 ∷ 0 ∷ 3 ∷ 2 ∷ 1 ∷ 3 ∷ 3 ∷ 0 ∷ 0 ∷ 6 ∷ 3 ∷ [])
+    ++ (spelled (1 ∷ 2 ∷ 240000 ∷ 80 ∷ 3 ∷ 2 ∷ 3 ∷ 160000 ∷ 80 ∷ 0 ∷ 1 ∷ 3 ∷ 400000 ∷ 80 ∷ 0 ∷ [])
+    ++ (0x48 ∷ 0x75 ∷ 0x62 ∷ 0x4C ∷ 0x61 ∷ 0x79 ∷ 0x45 ∷ 0x6E ∷ 0x64 ∷ [])))
+
+-- the European order 1 to 3, departure 0, with this latest arrival
+abbrev pub orderT : ℕ → List ℕ
+orderT latest = spelled (1 ∷ 3 ∷ 0 ∷ latest ∷ 0 ∷ 0 ∷ 16200 ∷ 2700 ∷ 32400 ∷ 39600 ∷ [])
+
+abbrev pub tripT : Trip
+tripT = tripFrom mapT (orderT 100000)
+
+-- state (clock; spell; shift), at Lay
+abbrev pub atLay : ℕ → ℕ → ℕ → State
+atLay clock spell shift = record { junction = 2; clock = record { 0 = clock }; spell = record { 0 = spell }; shift = record { 0 = shift } }
+
+-- one case, with what it must come to
+pub data Case : Type 0 where
+  -- a road of so many metres at this speed takes so many seconds
+  takes : (metres speed seconds : ℕ) → Case
+  -- T's answer has these figures
+  answers : (clock spell shift : ℕ) → Case
+  -- T's rows: kind, number, clock after
+  lists : List PlanRow → Case
+  -- T with this latest arrival, labels that fit and sheet length gets this reply
+  replies : (latest fit sheet : ℕ) → Reply → Case
+  -- at Lay with this spell, road 2 of 7,200 seconds is legal or not
+  drives : (spell : ℕ) → Bool → Case
+  -- the first state dominates the second or not
+  dominating : State → State → Bool → Case
+
+abbrev pub row : ℕ → ℕ → ℕ → PlanRow
+row kind number clock = record { kind = kind; number = number; clock = clock }
+
+abbrev pub sameBool : Bool → Bool → Bool
+sameBool true b = b
+sameBool false b = not b
+
+abbrev pub sameReply : Reply → Reply → Bool
+sameReply a b = eqb (a .number) (b .number) && (eqb (a .place) (b .place) && eqb (a .arrival) (b .arrival))
+
+abbrev pub sameRows : List PlanRow → List PlanRow → Bool
+sameRows [] [] = true
+sameRows [] (b ∷ rest) = false
+sameRows (a ∷ more) [] = false
+sameRows (a ∷ more) (b ∷ rest) =
+    (eqb (a .kind) (b .kind) && (eqb (a .number) (b .number) && eqb (a .clock) (b .clock))) && sameRows more rest
+
+abbrev pub hasFigures : ℕ → ℕ → ℕ → Option State → Bool
+hasFigures clock spell shift none = false
+hasFigures clock spell shift (some a) = eqb (a .clock .0) clock && (eqb (a .spell .0) spell && eqb (a .shift .0) shift)
+
+unfoldable pub right : Case → Bool
+unfolding planReply wordAt format junctionCount roadCount nameBytes junctionWord roadWord oversize outside lowest badJunctionAt badRoadAt brokenChainAt among chainFrom badLetterAt firstBroken badRules badTrip tripOf roadSeconds planRows planMoves labelsIn answerIn after legal sameState covers
+right (takes metres speed seconds) = eqb (roadSeconds metres speed) seconds
+right (answers clock spell shift) = hasFigures clock spell shift (answerIn tripT)
+right (lists rows) = sameRows (planRows tripT) rows
+right (replies latest fit sheet reply) = sameReply (planReply mapT (orderT latest) fit sheet) reply
+right (drives spell is) = sameBool (legal (tripT .order) (after tripT (atLay 0 spell spell) (move 1 2))) is
+right (dominating b a is) = sameBool (dominatesState b a) is
+
+-- in the order of document 01; then T's sheet
+abbrev pub starredCases : List Case
+starredCases =
+    takes 240000 80 10800
+    ∷ takes 160000 80 7200
+    ∷ takes 400000 80 18000
+    ∷ takes 1 130 1
+    ∷ takes 1250 90 50
+    ∷ takes 1251 90 51
+    ∷ answers 20700 7200 18000
+    ∷ replies 100000 4 56 (succeeded 4 20700)
+    ∷ replies 100000 3 56 (refusedAt 12 3)
+    ∷ replies 20700 4 56 (succeeded 4 20700)
+    ∷ replies 20699 4 56 (refusedAt 13 3)
+    ∷ drives 9000 true
+    ∷ drives 9001 false
+    ∷ dominating (atLay 10000 10000 10000) (atLay 13000 300 10300) false
+    ∷ dominating (atLay 13000 300 10300) (atLay 10000 10000 10000) false
+    ∷ dominating (atLay 10000 10000 10000) (atLay 10000 10000 10000) false
+    ∷ lists (row 1 1 10800 ∷ row 2 2 13500 ∷ row 1 2 20700 ∷ [])
+    ∷ replies 100000 4 55 (refusedAt 14 56)
+    ∷ []
+
+pub starred : T (every right starredCases)
+unfolding every right
+starred = tt
