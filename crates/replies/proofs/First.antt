@@ -175,3 +175,8 @@ refuses-after ts us why none-first refused rest success =
 pub none-of-both : (ts us : List Test) → NoneFits ts → NoneFits us → NoneFits (ts ++ us)
 none-of-both [] us none-first none-second = none-second
 none-of-both (t ∷ ts) us none-first none-second = (none-first .0, none-of-both ts us (none-first .1) none-second)
+
+pub none-at-all : (ts : List Test) (success : Reply) → NoneFits ts → firstOf ts success ≡ success
+unfolding firstOf
+none-at-all [] success all = refl
+none-at-all (t ∷ ts) success all = rw (all .0) (none-at-all ts success (all .1))

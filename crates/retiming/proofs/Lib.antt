@@ -4,3 +4,4 @@ pub mod Underway
 pub mod Judging
 pub mod Rewriting
 pub mod Retimes
+pub mod Audited

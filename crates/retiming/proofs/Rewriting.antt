@@ -42,12 +42,12 @@ not-refused : {l : State} {ys : List Row} {w : Walk} (why : Refusal) → w ≡ r
 not-refused {l} {ys} why e h = subst (λ (x : Walk). WalkSays x (Walked.Refused why)) e h
 
 -- the first of the records reached, and the rest
-record Cut (x : Row) (w : Walk) (l : State) (ys : List Row) : Type 0 where
-  zs : List Row
-  rest : w ≡ reached l zs
-  is : ys ≡ x ∷ zs
+pub record Cut (x : Row) (w : Walk) (l : State) (ys : List Row) : Type 0 where
+  pub zs : List Row
+  pub rest : w ≡ reached l zs
+  pub is : ys ≡ x ∷ zs
 
-cut : (x : Row) (w : Walk) (l : State) (ys : List Row) → recorded x w ≡ reached l ys → Cut x w l ys
+pub cut : (x : Row) (w : Walk) (l : State) (ys : List Row) → recorded x w ≡ reached l ys → Cut x w l ys
 cut x (refused number move) l ys e = absurd (let z : _≡_ {A = ℕ} 0 1 = cc in omega arith)
 cut x (reached s zs) l ys e = record { zs = zs; rest = cc; is = cc }
 
@@ -85,7 +85,7 @@ walk-length clocks trip k s (row ∷ rs) {l} {ys} e = by (one-row clocks trip k 
     never p = let z : _≡_ {A = ℕ} 0 1 = cc in omega arith
 
     by : OneRow clocks trip k s row → ((t : State) (zs : List Row) → walk clocks trip (k + 1) t rs ≡ reached l zs → length zs ≡ length rs) → length ys ≡ length (row ∷ rs)
-    by (stops number always) go = absurd (never (sym (always rs) ∙ e))
+    by (stops number late always) go = absurd (never (sym (always rs) ∙ e))
     by (passes t moved always) go =
         let rest = cut (trueRow row t) (walk clocks trip (k + 1) t rs) l ys (sym (always rs) ∙ e) in
         ap length (rest .is) ∙ ap suc (go t (rest .zs) (rest .rest))

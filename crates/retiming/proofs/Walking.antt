@@ -3,7 +3,7 @@ use mathlib.Core.Path.{_≡_, _∙_, refl, sym, ap, subst, subst₂}
 use mathlib.Core.Bool.{Bool, true, false, not, _&&_}
 use mathlib.Core.List.{List, [], _∷_}
 use Prim.Native.Nat.{ℕ, zero, suc, _+_, _-_, _≤_}
-use lib.Dec.{eqb}
+use lib.Dec.{eqb, lit≤}
 use native.Mathlib.Omega.{arith}
 use Rattle.replies.specs.declared.Refusal.{Refusal}
 use Rattle.replies.proofs.First.{cases}
@@ -72,7 +72,7 @@ walk-end clocks trip k s = refl
 
 -- what one record does to the walk over it and all that follow
 pub data OneRow (clocks : Bool) (trip : Trip) (k : ℕ) (s : State) (row : Row) : Type 0 where
-  stops : (number : ℕ) → ((rows : List Row) → walk clocks trip k s (row ∷ rows) ≡ refused number k) → OneRow clocks trip k s row
+  stops : (number : ℕ) → 16 ≤ number → ((rows : List Row) → walk clocks trip k s (row ∷ rows) ≡ refused number k) → OneRow clocks trip k s row
   passes : (t : State) → stepped trip s (moveOf row) ≡ Moved t
       → ((rows : List Row) → walk clocks trip k s (row ∷ rows) ≡ recorded (trueRow row t) (walk clocks trip (k + 1) t rows)) → OneRow clocks trip k s row
 
@@ -81,12 +81,12 @@ module _ (clocks : Bool) (trip : Trip) (k : ℕ) (s : State) (row : Row) where
   one-row = at (stepped trip s (moveOf row)) refl
     where
       by-clock : (t : State) → stepped trip s (moveOf row) ≡ Moved t → (b : Bool) → (clocks && not (eqb (row .clock) (t .clock .0))) ≡ b → OneRow clocks trip k s row
-      by-clock t e true is = stops 18 (λ rows. walk-moved clocks trip k s row rows e ∙ rw is refl)
+      by-clock t e true is = stops 18 (lit≤ tt) (λ rows. walk-moved clocks trip k s row rows e ∙ rw is refl)
       by-clock t e false is = passes t e (λ rows. walk-moved clocks trip k s row rows e ∙ rw is refl)
 
       at : (x : Step) → stepped trip s (moveOf row) ≡ x → OneRow clocks trip k s row
-      at Foreign e = stops 16 (λ rows. walk-foreign clocks trip k s row rows e)
-      at Overrun e = stops 17 (λ rows. walk-overrun clocks trip k s row rows e)
+      at Foreign e = stops 16 (lit≤ tt) (λ rows. walk-foreign clocks trip k s row rows e)
+      at Overrun e = stops 17 (lit≤ tt) (λ rows. walk-overrun clocks trip k s row rows e)
       at (Moved t) e = by-clock t e (clocks && not (eqb (row .clock) (t .clock .0))) refl
 
   says : (r : Walked) {v w : Walk} → v ≡ w → WalkSays v r → WalkSays w r
@@ -101,7 +101,7 @@ module _ (clocks : Bool) (trip : Trip) (k : ℕ) (s : State) (row : Row) where
   says-refused rows why h = by one-row
     where
       by : OneRow clocks trip k s row → WalkSays (walk clocks trip k s (row ∷ rows)) (Walked.Refused why)
-      by (stops number always) = says (Walked.Refused why) (sym (always rows)) (says (Walked.Refused why) (always []) h)
+      by (stops number late always) = says (Walked.Refused why) (sym (always rows)) (says (Walked.Refused why) (always []) h)
       by (passes t e always) = absurd (says (Walked.Refused why) (always [] ∙ last-reached) h)
 
   -- a record that leads to a state hands the walk on to those that follow
@@ -113,7 +113,7 @@ module _ (clocks : Bool) (trip : Trip) (k : ℕ) (s : State) (row : Row) where
   handed-on t h = by one-row
     where
       by : OneRow clocks trip k s row → HandedOn t
-      by (stops number always) = absurd (says (Walked.Reached t) (always []) h)
+      by (stops number late always) = absurd (says (Walked.Reached t) (always []) h)
       by (passes u e always) =
           let same : t ≡ u = says (Walked.Reached t) (always [] ∙ last-reached) h in
           rw same (record { moved = moved-to trip s (moveOf row) u e; always = always })

@@ -1,0 +1,205 @@
+-- What retiming wrote passes the audit, and arrival less departure is the sum of road times, breaks and rests. Assumes nothing.
+use mathlib.Core.Path.{_≡_, _∙_, refl, sym, ap, subst}
+use mathlib.Core.Bool.{Bool, true, false, not, _&&_}
+use mathlib.Core.List.{List, [], _∷_, _++_}
+use mathlib.Core.Option.{Option, none, some}
+use Prim.Native.Nat.{ℕ, _+_, _≤_}
+use native.Mathlib.Omega.{arith}
+use borrow.Author.Tests.{eq-eqb}
+use lib.Dec.{eqb, lit≤}
+use lib.ListN.{length, take}
+use Rattle.replies.specs.declared.Reply.{Reply}
+use Rattle.replies.specs.First.{Test, _at_, firstOf, NoneFits}
+use Rattle.replies.specs.Told.{succeeded}
+use Rattle.replies.proofs.First.{Numbered, none-fits, none-fitted, none-of-both, none-at-all}
+use Rattle.roadmap.specs.Format.{junctionCount}
+use Rattle.driving.specs.declared.Order.{Order}
+use Rattle.driving.specs.Order.{orderOf}
+use Rattle.moves.specs.declared.State.{State}
+use Rattle.moves.specs.declared.Step.the-variants.{Moved}
+use Rattle.moves.specs.Trip.{Trip, tripOf}
+use Rattle.moves.specs.Moves.{startOf, moveSeconds, stepped, after}
+use Rattle.moves.specs.Opened.{runTests}
+use Rattle.moves.proofs.Rising.{clock-after}
+use Rattle.sheets.specs.declared.Heading.{Heading}
+use Rattle.sheets.specs.declared.Row.{Row}
+use Rattle.sheets.specs.Sheet.{headingOf, rowsOf, sheetNeeded, sheetAfter, tornSheet}
+use Rattle.sheets.specs.Written.{Whole}
+use Rattle.sheets.proofs.Reading.{none-whole, length-rows-of, prefix-heading, prefix-rows, prefix-untorn}
+use Rattle.retiming.specs.Walk.{Walk, refused, reached, moveOf, trueRow, recorded, walk, moveTest, stray, arrivalOf, rowSeconds}
+use Rattle.retiming.specs.Retiming.{movesOn, timing, shortSheet, sheetTests, retimingTests, retimingReply, retimedTo, retimedSheet, falseFigures, falseHeader, auditTests, auditReply}
+use Rattle.retiming.proofs.Walking.{OneRow, stops, passes, one-row, walk-end, walk-moved, moved-to}
+use Rattle.retiming.proofs.Rewriting.{Cut, cut, walk-length}
+use Rattle.retiming.proofs.Retimes.{retimedHeading}
+
+never-reached : {number k : ℕ} {l : State} {ys : List Row} → refused number k ≡ reached l ys → ⊥
+never-reached p = let z : _≡_ {A = ℕ} 0 1 = cc in omega arith
+
+-- the records that a walk gives are walked over to the same end, their clocks compared too
+pub walk-again : (trip : Trip) (k : ℕ) (s : State) (rs : List Row) {l : State} {ys : List Row} →
+    walk false trip k s rs ≡ reached l ys → walk true trip k s ys ≡ reached l ys
+walk-again trip k s [] {l} {ys} e =
+    let none-given : ys ≡ [] = cc (walk-end false trip k s) in
+    let same : s ≡ l = cc (walk-end false trip k s) in
+    rw none-given (walk-end true trip k s ∙ ap (λ (x : State). reached x []) same)
+walk-again trip k s (row ∷ rs) {l} {ys} e = by (one-row false trip k s row) (λ t zs p. walk-again trip (k + 1) t rs p)
+  where
+    by : OneRow false trip k s row → ((t : State) (zs : List Row) → walk false trip (k + 1) t rs ≡ reached l zs → walk true trip (k + 1) t zs ≡ reached l zs) → walk true trip k s ys ≡ reached l ys
+    by (stops number late always) go = absurd (never-reached (sym (always rs) ∙ e))
+    by (passes t moved always) go =
+        let rest = cut (trueRow row t) (walk false trip (k + 1) t rs) l ys (sym (always rs) ∙ e) in
+        rw (rest .is)
+        (walk-moved true trip k s (trueRow row t) (rest .zs) moved
+        ∙ rw (eq-eqb (t .clock .0) (t .clock .0) refl) (ap (recorded (trueRow row t)) (go t (rest .zs) (rest .rest))))
+
+-- the clock rises by the sum of the moves' times
+pub walk-seconds : (clocks : Bool) (trip : Trip) (k : ℕ) (s : State) (rs : List Row) {l : State} {ys : List Row} →
+    walk clocks trip k s rs ≡ reached l ys → l .clock .0 ≡ s .clock .0 + rowSeconds trip rs
+unfolding rowSeconds
+walk-seconds clocks trip k s [] {l} {ys} e =
+    let same : s ≡ l = cc (walk-end clocks trip k s) in
+    omega (arith, ap (λ (x : State). x .clock .0) same)
+walk-seconds clocks trip k s (row ∷ rs) {l} {ys} e = by (one-row clocks trip k s row) (λ t zs p. walk-seconds clocks trip (k + 1) t rs p)
+  where
+    by : OneRow clocks trip k s row → ((t : State) (zs : List Row) → walk clocks trip (k + 1) t rs ≡ reached l zs → l .clock .0 ≡ t .clock .0 + rowSeconds trip rs)
+        → l .clock .0 ≡ s .clock .0 + (moveSeconds trip (moveOf row) + rowSeconds trip rs)
+    by (stops number late always) go = absurd (never-reached (sym (always rs) ∙ e))
+    by (passes t moved always) go =
+        let rest = cut (trueRow row t) (walk clocks trip (k + 1) t rs) l ys (sym (always rs) ∙ e) in
+        let to = moved-to trip s (moveOf row) t moved in
+        omega (arith, go t (rest .zs) (rest .rest), ap (λ (x : State). x .clock .0) (to .result), clock-after trip s (moveOf row))
+
+-- the refusals that a walk meets number from 16
+walk-number : (clocks : Bool) (trip : Trip) (k : ℕ) (s : State) (rs : List Row) {number move : ℕ} → walk clocks trip k s rs ≡ refused number move → 16 ≤ number
+walk-number clocks trip k s [] e = absurd (never-reached (sym e ∙ walk-end clocks trip k s))
+walk-number clocks trip k s (row ∷ rs) {number} {move} e = by (one-row clocks trip k s row) (λ t p. walk-number clocks trip (k + 1) t rs p)
+  where
+    same : {n m : ℕ} → refused n m ≡ refused number move → n ≡ number
+    same p = cc
+
+    after-record : (x : Row) (w : Walk) → recorded x w ≡ refused number move → w ≡ refused number move
+    after-record x (refused n m) p = p
+    after-record x (reached t rows) p = absurd (never-reached (sym p))
+
+    by : OneRow clocks trip k s row → ((t : State) → walk clocks trip (k + 1) t rs ≡ refused number move → 16 ≤ number) → 16 ≤ number
+    by (stops n late always) go = omega (arith, late, same (sym (always rs) ∙ e))
+    by (passes t moved always) go = go t (after-record (trueRow row t) (walk clocks trip (k + 1) t rs) (sym (always rs) ∙ e))
+
+-- a walk that no refusal met
+record Met (w : Walk) : Type 0 where
+  s : State
+  rows : List Row
+  is : w ≡ reached s rows
+
+met : (w : Walk) → moveTest w .place ≡ none → Met w
+met (refused number move) e = absurd (let z : _≡_ {A = ℕ} 0 1 = cc in omega arith)
+met (reached s rows) e = record { s = s; rows = rows; is = refl }
+
+-- the figures that retiming writes into the header are true
+own-figures : (given : Heading) (s : State) → falseFigures (retimedHeading given s) s ≡ false
+unfolding falseFigures
+own-figures given s = rw (eq-eqb (s .clock .0) (s .clock .0) refl, eq-eqb (s .spell .0) (s .spell .0) refl, eq-eqb (s .shift .0) (s .shift .0) refl)
+
+-- what a retiming that succeeded found, from its reply's number alone
+module _ (map order sheet out : List ℕ) (number-0 : retimingReply map order sheet out .number ≡ 0) where
+  abbrev found : Walk
+  found = timing false map (orderOf order) sheet
+
+  move-number : 1 ≤ moveTest found .number
+  unfolding timing
+  move-number = by found refl
+    where
+      by : (w : Walk) → found ≡ w → 1 ≤ moveTest w .number
+      by (refused number move) e = omega (arith, walk-number false _ 1 _ _ e)
+      by (reached s rows) e = lit≤ tt
+
+  none-fitting : NoneFits (retimingTests map order sheet out found)
+  none-fitting =
+      none-fitted (retimingTests map order sheet out found) _
+      (lit≤ tt, (lit≤ tt, (lit≤ tt, (lit≤ tt, (lit≤ tt, (lit≤ tt, (lit≤ tt, (lit≤ tt, (lit≤ tt, (lit≤ tt, (lit≤ tt, (lit≤ tt, (move-number, (lit≤ tt, (lit≤ tt, tt)))))))))))))))
+      number-0
+
+  sheet-tests : NoneFits (sheetTests (orderOf order) sheet found)
+  sheet-tests = let late = none-fitting .1 .1 .1 .1 .1 .1 .1 .1 .1 .1 .1 in (late .0, (late .1 .0, (late .1 .1 .0, tt)))
+
+  run-tests : NoneFits (runTests map order)
+  run-tests =
+      let n = none-fitting in
+      (n .0, (n .1 .0, (n .1 .1 .0, (n .1 .1 .1 .0, (n .1 .1 .1 .1 .0, (n .1 .1 .1 .1 .1 .0, (n .1 .1 .1 .1 .1 .1 .0, (n .1 .1 .1 .1 .1 .1 .1 .0, (n .1 .1 .1 .1 .1 .1 .1 .1 .0, (n .1 .1 .1 .1 .1 .1 .1 .1 .1 .0, (n .1 .1 .1 .1 .1 .1 .1 .1 .1 .1 .0, tt)))))))))))
+
+  ended : Met found
+  ended = met found (sheet-tests .1 .0)
+
+  whole : Whole sheet
+  whole = none-whole sheet (sheet-tests .0)
+
+  -- the state that the moves reach, and the records with true clocks
+  pub reached-state : State
+  reached-state = ended .s
+
+  pub true-rows : List Row
+  true-rows = ended .rows
+
+  pub found-reached : found ≡ reached reached-state true-rows
+  unfolding reached-state true-rows
+  found-reached = ended .is
+
+  row-count : length true-rows ≡ movesOn sheet
+  unfolding timing
+  row-count = walk-length false _ 1 _ _ found-reached ∙ length-rows-of sheet 1 (movesOn sheet)
+
+  abbrev heading : Heading
+  heading = retimedHeading (headingOf sheet) reached-state
+
+  pub written : retimedSheet map order sheet out ≡ sheetAfter heading true-rows out
+  written = rw (number-0, found-reached) refl
+
+  -- the header and the M records of what was written
+  abbrev kept : List ℕ
+  kept = take (sheetNeeded (movesOn sheet)) (retimedSheet map order sheet out)
+
+  kept-is : kept ≡ take (sheetNeeded (length true-rows)) (sheetAfter heading true-rows out)
+  kept-is = rw (row-count, written) refl
+
+  kept-heading : headingOf kept ≡ heading
+  kept-heading = ap headingOf kept-is ∙ prefix-heading heading true-rows out
+
+  rows-kept : rowsOf kept 1 (movesOn kept) ≡ true-rows
+  rows-kept =
+      ap (λ (n : ℕ). rowsOf kept 1 n) (ap (λ (h : Heading). h .moves) kept-heading ∙ sym row-count)
+      ∙ ap (λ (l : List ℕ). rowsOf l 1 (length true-rows)) kept-is
+      ∙ prefix-rows heading true-rows out
+
+  audited-walk : timing true map (orderOf order) kept ≡ reached reached-state true-rows
+  unfolding timing
+  audited-walk =
+      ap (walk true (tripOf map (orderOf order)) 1 (startOf (orderOf order))) rows-kept
+      ∙ walk-again (tripOf map (orderOf order)) 1 (startOf (orderOf order)) (rowsOf sheet 1 (movesOn sheet)) found-reached
+
+  figures-true : falseFigures (headingOf kept) reached-state ≡ false
+  figures-true = ap (λ (h : Heading). falseFigures h reached-state) kept-heading ∙ own-figures (headingOf sheet) reached-state
+
+  kept-whole : tornSheet kept ≡ none
+  kept-whole = ap tornSheet kept-is ∙ prefix-untorn heading true-rows out (sym row-count) (omega (arith, whole, row-count))
+
+  at-target : stray (orderOf order .target) (reached reached-state true-rows) ≡ none
+  at-target = rw found-reached at (sheet-tests .1 .1 .0)
+
+  audit-tests : NoneFits (sheetTests (orderOf order) kept (reached reached-state true-rows) ++ ((18 at falseHeader (headingOf kept) (reached reached-state true-rows)) ∷ []))
+  audit-tests = (kept-whole, (refl, (at-target, (rw figures-true refl, tt))))
+
+  -- retiming that succeeds replies 0, M and the clock of the state reached
+  pub retimed-reply : retimingReply map order sheet out ≡ succeeded (movesOn sheet) (reached-state .clock .0)
+  retimed-reply = none-at-all (retimingTests map order sheet out found) _ none-fitting ∙ ap (λ (w : Walk). succeeded (movesOn sheet) (arrivalOf w)) found-reached
+
+  -- and auditing the header and the M records of what it wrote replies the same
+  pub retimed-audits : auditReply map order kept ≡ succeeded (movesOn sheet) (reached-state .clock .0)
+  retimed-audits =
+      ap (λ (w : Walk). firstOf (auditTests map order kept w) (succeeded (movesOn kept) (arrivalOf w))) audited-walk
+      ∙ none-at-all (auditTests map order kept (reached reached-state true-rows)) _ (none-of-both (runTests map order) (sheetTests (orderOf order) kept (reached reached-state true-rows) ++ ((18 at falseHeader (headingOf kept) (reached reached-state true-rows)) ∷ [])) run-tests audit-tests)
+      ∙ ap (λ (h : Heading). succeeded (h .moves) (reached-state .clock .0)) kept-heading
+
+  -- arrival less departure is the sum of its road times, breaks and rests
+  pub retimed-seconds : reached-state .clock .0 ≡ orderOf order .departure .0 + rowSeconds (tripOf map (orderOf order)) (rowsOf sheet 1 (movesOn sheet))
+  unfolding timing
+  retimed-seconds = walk-seconds false (tripOf map (orderOf order)) 1 (startOf (orderOf order)) (rowsOf sheet 1 (movesOn sheet)) found-reached
