@@ -1,22 +1,8 @@
-#!/usr/bin/env python3
 """Worked cases of map check, names, chain making and order check.
 
-Writes what the program `map_trials` reads (stdin) and what it must print (stdout). The expected
-replies are written here by hand from document 01; nothing is taken from the program.
-
-    tests/map_cases.py           write crates/map_trials/stdin and stdout
-    tests/map_cases.py --check   fail where the stored files differ from what would be written
+The expected replies are written here by hand from document 01; nothing is taken from the program.
 """
-import pathlib
-import struct
-import sys
-
-FOLDER = pathlib.Path(__file__).resolve().parent.parent / "crates" / "map_trials"
-ALL_BITS = 0xFFFFFFFF
-
-
-def words(*values):
-    return struct.pack("<%dI" % len(values), *values)
+from case_files import ALL_BITS, case, words
 
 
 class Map:
@@ -76,27 +62,22 @@ def letter(offset, value):
 FIRST, PARK, START, LENGTH = range(4)
 FROM, TO, METRES, SPEED, NEXT = range(5)
 T = map_t().bytes()
-CASES = []
-
-
-def case(kind, title, number, data, *lines):
-    CASES.append((kind, title, number, bytes(data), lines))
 
 
 def check(title, data, reply):
-    case("m", title, 0, data, reply)
+    case("m", title, reply, trunk=data)
 
 
 def order(title, junctions, data, reply):
-    case("o", title, junctions, data, reply)
+    case("o", title, reply, number=junctions, order=data)
 
 
 def name(title, number, data, reply, part):
-    case("n", title, number, data, reply, "<%s>" % part)
+    case("n", title, "%s <%s>" % (reply, part), number=number, trunk=data)
 
 
 def chain(title, data, reply, after):
-    case("c", title, 0, data, reply, after.hex())
+    case("c", title, reply + " " + after.hex(), trunk=data)
 
 
 def shared_chain(junctions, roads):
@@ -267,27 +248,3 @@ chain("misfit", T + b"xy", "4 133 0", T + b"xy")
 chain("bad flag", junction(3, PARK, 7), "5 3 0", junction(3, PARK, 7))
 chain("bad from", road(3, FROM, 0), "6 3 0", road(3, FROM, 0))
 chain("a bad letter is found before a byte is written", unchained(9).bytes()[:-1] + b"\x7f", "8 132 0", unchained(9).bytes()[:-1] + b"\x7f")
-
-
-def files():
-    given, expected = b"", b""
-    for kind, title, number, data, lines in CASES:
-        given += kind.encode() + bytes([len(title)]) + title.encode() + words(number, len(data)) + data
-        expected += title.encode() + b": " + " ".join(lines).encode() + b"\n"
-    return {"stdin": given, "stdout": expected}
-
-
-def main():
-    wanted = files()
-    if sys.argv[1:] == ["--check"]:
-        for file, content in wanted.items():
-            if (FOLDER / file).read_bytes() != content:
-                sys.exit("%s differs from what tests/map_cases.py writes" % (FOLDER / file))
-        return
-    FOLDER.mkdir(parents=True, exist_ok=True)
-    for file, content in wanted.items():
-        (FOLDER / file).write_bytes(content)
-    print("%d cases" % len(CASES))
-
-
-main()

@@ -2,8 +2,8 @@ use Prim.Native.Nat.{_≤_, _-_}
 use native.Mathlib.Omega.{arith}
 use lib.ListN.{length}
 use borrow.Author.Needs.{needs}
-use Rattle.map_trials.proofs.print_bytes.Statement.{statement}
-use Rattle.map_trials.proofs.print_bytes.Tie as tie
+use Rattle.trials.proofs.print_bytes.Statement.{statement}
+use Rattle.trials.proofs.print_bytes.Tie as tie
 
 abbrev Inv-loop : tie.InvT-loop
 Inv-loop bytes i₀ i = i ≤ length bytes

@@ -2,14 +2,15 @@ use mathlib.Core.Path.{_≡_}
 use Prim.Native.Nat.{_≤_, _-_}
 use lib.ListN.{length}
 use borrow.Author.Needs.{needs}
-use Rattle.map_trials.proofs.run_all.Statement.{statement}
-use Rattle.map_trials.proofs.run_all.Tie as tie
+use Rattle.trials.proofs.run_all.Statement.{statement}
+use Rattle.trials.proofs.run_all.Tie as tie
 
 abbrev Inv-loop : tie.InvT-loop
-Inv-loop cases₀ n at₀ cases at = (n ≤ length cases) × (length cases ≡ length cases₀)
+Inv-loop cases₀ space₀ n at₀ cases space at =
+    (n ≤ length cases) × ((length cases ≡ length cases₀) × (length space ≡ length space₀))
 
 abbrev μ-loop : tie.MeasureT-loop
-μ-loop cases₀ n at₀ cases at = n - at
+μ-loop cases₀ space₀ n at₀ cases space at = n - at
 
 pub run-all-spec : {M : Type 1} → statement M
 run-all-spec =
@@ -20,6 +21,7 @@ run-all-spec =
     (λ c κs. search needs)
     (λ c. search needs)
     (λ c κs. search needs)
+    (λ c. search needs)
     (λ c. search needs)
     (λ c. search needs)
     (λ c. search needs)

@@ -1,0 +1,23 @@
+"""The format in which the program `trials` reads worked cases, and the list of them."""
+import struct
+
+ALL_BITS = 0xFFFFFFFF
+CASES = []
+
+
+def words(*values):
+    return struct.pack("<%dI" % len(values), *values)
+
+
+def case(kind, title, answer, number=0, trunk=b"", order=b"", sheet=b""):
+    """One case; `answer` is the line the program must print after the title."""
+    CASES.append((kind, title, answer, number, bytes(trunk), bytes(order), bytes(sheet)))
+
+
+def files():
+    given, expected = b"", b""
+    for kind, title, answer, number, trunk, order, sheet in CASES:
+        given += kind.encode() + bytes([len(title)]) + title.encode()
+        given += words(number, len(trunk), len(order), len(sheet)) + trunk + order + sheet
+        expected += ("%s: %s\n" % (title, answer)).encode()
+    return {"stdin": given, "stdout": expected}

@@ -1,0 +1,141 @@
+"""Worked cases of retiming and audit.
+
+The expected replies and figures are written here by hand from document 01; nothing is taken from
+the program.
+"""
+from case_files import ALL_BITS, case, words
+
+
+def trunk_map(junctions, roads, names):
+    header = words(1, len(junctions), len(roads), len(names))
+    return header + b"".join(words(*j) for j in junctions) + b"".join(words(*r) for r in roads) + names
+
+
+# Map T of document 01: Hub 1, Lay 2 (car park), End 3; roads of 10,800, 7,200 and 18,000 seconds.
+T = trunk_map(
+    [[1, 0, 0, 3], [2, 1, 3, 3], [0, 0, 6, 3]],
+    [[1, 2, 240000, 80, 3], [2, 3, 160000, 80, 0], [1, 3, 400000, 80, 0]],
+    b"HubLayEnd",
+)
+# One junction, a car park, with a road to itself of 50 seconds (1,250 m at 90).
+LOOP = trunk_map([[1, 1, 0, 1]], [[1, 1, 1250, 90, 0]], b"x")
+EUROPE = [1, 3, 0, 100000, 0, 0, 16200, 2700, 32400, 39600]
+HOME = [1, 1, 7, 100000, 5, 6, 16200, 2700, 32400, 39600]
+DRIVE, BREAK, REST = 1, 2, 3
+PLAN = [(DRIVE, 1, 10800), (BREAK, 2, 13500), (DRIVE, 2, 20700)]
+
+
+def order(base=EUROPE, **at):
+    w = list(base)
+    for key, value in at.items():
+        w[int(key[1:])] = value
+    return words(*w)
+
+
+def sheet(rows, arrival=0, spell=0, shift=0, labels=4, moves=None):
+    head = words(len(rows) if moves is None else moves, arrival, spell, shift, labels)
+    return head + b"".join(words(*r) for r in rows)
+
+
+TRUE = sheet(PLAN, 20700, 7200, 18000)
+
+
+def retime(title, trunk, orders, given, length, reply, written=None):
+    """`length` bytes of 0xEE are lent; `written` is the start of what they hold afterwards."""
+    before = b"\xee" * length
+    after = before if written is None else written + before[len(written) :]
+    case("r", title, reply + " " + after.hex(), number=length, trunk=trunk, order=orders, sheet=given)
+
+
+def audit(title, trunk, orders, given, reply):
+    case("a", title, reply, trunk=trunk, order=orders, sheet=given)
+
+
+def both(title, trunk, orders, given, reply):
+    """A refusal that retiming and audit share; the other sheet stays."""
+    retime("retime: " + title, trunk, orders, given, 60, reply)
+    audit("audit: " + title, trunk, orders, given, reply)
+
+
+# --- retiming that succeeds --------------------------------------------------------------------
+retime("T's plan, exact sheet", T, order(), TRUE, 56, "0 3 20700", TRUE)
+retime("false clocks and header are not read", T, order(), sheet([(1, 1, 9), (2, 2, 8), (1, 2, 7)], 1, 2, 3), 56, "0 3 20700", TRUE)
+retime("a longer sheet keeps its tail", T, order(), TRUE, 60, "0 3 20700", TRUE)
+retime("N is copied unjudged", T, order(), sheet(PLAN, labels=ALL_BITS), 56, "0 3 20700", sheet(PLAN, 20700, 7200, 18000, ALL_BITS))
+retime("a later departure", T, order(w2=100), TRUE, 56, "0 3 20800", sheet([(1, 1, 10900), (2, 2, 13600), (1, 2, 20800)], 20800, 7200, 18000))
+retime("a rest in place of the break", T, order(), sheet([(1, 1, 0), (3, 2, 0), (1, 2, 0)]), 56, "0 3 57600", sheet([(1, 1, 10800), (3, 2, 50400), (1, 2, 57600)], 57600, 7200, 7200))
+retime("two breaks in a row", T, order(), sheet([(1, 1, 0), (2, 2, 0), (2, 2, 0), (1, 2, 0)]), 68, "0 4 23400", sheet([(1, 1, 10800), (2, 2, 13500), (2, 2, 16200), (1, 2, 23400)], 23400, 7200, 18000))
+retime("break then rest clears both", T, order(), sheet([(1, 1, 0), (2, 2, 0), (3, 2, 0), (1, 2, 0)]), 68, "0 4 60300", sheet([(1, 1, 10800), (2, 2, 13500), (3, 2, 53100), (1, 2, 60300)], 60300, 7200, 7200))
+retime("no moves, source is target", LOOP, order(HOME), sheet([]), 20, "0 0 7", sheet([], 7, 5, 6))
+retime("a pause at source", LOOP, order(HOME), sheet([(2, 1, 0)]), 32, "0 1 2707", sheet([(2, 1, 2707)], 2707, 0, 6))
+retime("a rest at source", LOOP, order(HOME), sheet([(3, 1, 0)]), 32, "0 1 39607", sheet([(3, 1, 39607)], 39607, 0, 0))
+retime("a road to its own junction", LOOP, order(HOME), sheet([(1, 1, 0)]), 32, "0 1 57", sheet([(1, 1, 57)], 57, 55, 56))
+retime("through target and on", LOOP, order(HOME), sheet([(1, 1, 0), (2, 1, 0), (1, 1, 0)]), 56, "0 3 2807", sheet([(1, 1, 57), (2, 1, 2757), (1, 1, 2807)], 2807, 50, 106))
+retime("arrival at latest", T, order(w3=20700), TRUE, 56, "0 3 20700", TRUE)
+retime("spell at its limit", T, order(w6=10800), TRUE, 56, "0 3 20700", TRUE)
+retime("shift at its limit", T, order(w8=18000), TRUE, 56, "0 3 20700", TRUE)
+
+# --- audit that succeeds -----------------------------------------------------------------------
+audit("T's plan audits", T, order(), TRUE, "0 3 20700")
+audit("N is not compared", T, order(), sheet(PLAN, 20700, 7200, 18000, 99), "0 3 20700")
+audit("no moves, true header", LOOP, order(HOME), sheet([], 7, 5, 6), "0 0 7")
+audit("a pause at source audits", LOOP, order(HOME), sheet([(2, 1, 2707)], 2707, 0, 6), "0 1 2707")
+audit("a sheet that is not the first to arrive audits", T, order(), sheet([(1, 1, 10800), (3, 2, 50400), (1, 2, 57600)], 57600, 7200, 7200), "0 3 57600")
+
+# --- refusals 1 to 11 before the sheet is looked at ----------------------------------------------
+both("short map", T[:3], order(), TRUE, "1 3 0")
+both("broken chain and torn sheet: the chain", T[:80] + words(0) + T[84:], order(), TRUE[:-1], "7 3 0")
+both("bad lettering", T[:-1] + b"\x7f", order(), TRUE, "8 132 0")
+both("no order", T, b"", TRUE, "9 0 0")
+both("bad rules and torn sheet: the rules", T, order(w7=0), b"", "10 7 0")
+both("bad trip and torn sheet: the trip", T, order(w1=9), b"", "11 1 0")
+
+# --- 15 torn sheet -------------------------------------------------------------------------------
+both("empty sheet", T, order(), b"", "15 0 0")
+both("19 bytes", T, order(), TRUE[:19], "15 19 0")
+both("one byte too long", T, order(), TRUE + b"x", "15 57 0")
+both("one byte too short", T, order(), TRUE[:-1], "15 55 0")
+both("M above 999,999", T, order(), sheet(PLAN, moves=1000000), "15 56 0")
+both("20 + 12M wraps to the length", T, order(), sheet(PLAN, moves=357913942 + 2), "15 56 0")
+both("M 0 with a record", T, order(), sheet(PLAN[:1], moves=0), "15 32 0")
+both("M one more than the records", T, order(), sheet(PLAN, moves=4), "15 56 0")
+
+# --- 16 foreign move -----------------------------------------------------------------------------
+both("kind 0 first", T, order(), sheet([(0, 1, 10800)] + PLAN[1:], 20700, 7200, 18000), "16 1 0")
+both("kind 4 in the middle", T, order(), sheet([PLAN[0], (4, 2, 13500), PLAN[2]], 20700, 7200, 18000), "16 2 0")
+both("kind 257 last", T, order(), sheet(PLAN[:2] + [(257, 2, 20700)], 20700, 7200, 18000), "16 3 0")
+both("road 0", T, order(), sheet([(1, 0, 10800)] + PLAN[1:], 20700, 7200, 18000), "16 1 0")
+both("road above R", T, order(), sheet([(1, 4, 10800)] + PLAN[1:], 20700, 7200, 18000), "16 1 0")
+both("road of all bits", T, order(), sheet(PLAN[:2] + [(1, ALL_BITS, 20700)], 20700, 7200, 18000), "16 3 0")
+both("road that leaves elsewhere", T, order(), sheet([(1, 2, 10800)] + PLAN[1:], 20700, 7200, 18000), "16 1 0")
+both("pause of another number", T, order(), sheet([PLAN[0], (2, 1, 13500), PLAN[2]], 20700, 7200, 18000), "16 2 0")
+both("pause where no car park is", T, order(), sheet([(2, 1, 2700)] + PLAN, 20700, 7200, 18000), "16 1 0")
+both("foreign move after an overrun: the overrun", T, order(w6=10799), sheet([PLAN[0], (9, 9, 9), PLAN[2]], 20700, 7200, 18000), "17 1 0")
+
+# --- 17 overrun ----------------------------------------------------------------------------------
+both("spell over its limit, first move", T, order(w6=10799), TRUE, "17 1 0")
+both("spell over its limit, last move", T, order(), sheet([PLAN[0], (1, 2, 18000)], 18000, 18000, 18000), "17 2 0")
+both("shift over its limit, last move", T, order(w6=16200, w8=17999), TRUE, "17 3 0")
+both("clock over latest, a pause", T, order(w3=13499), TRUE, "17 2 0")
+both("clock over latest, last move", T, order(w3=20699), TRUE, "17 3 0")
+both("starting spell counts", T, order(w4=5401, w5=5401), TRUE, "17 1 0")
+
+# --- 18 false figure (audit) ---------------------------------------------------------------------
+audit("false clock first", T, order(), sheet([(1, 1, 10799)] + PLAN[1:], 20700, 7200, 18000), "18 1 0")
+audit("false clock in the middle", T, order(), sheet([PLAN[0], (2, 2, 13501), PLAN[2]], 20700, 7200, 18000), "18 2 0")
+audit("false clock last", T, order(), sheet(PLAN[:2] + [(1, 2, 0)], 20700, 7200, 18000), "18 3 0")
+audit("false clock before an overrun: the clock", T, order(w3=20699), sheet([(1, 1, 1)] + PLAN[1:], 20700, 7200, 18000), "18 1 0")
+audit("overrun with a false clock: the overrun", T, order(w3=20699), sheet(PLAN[:2] + [(1, 2, 1)], 20700, 7200, 18000), "17 3 0")
+audit("false arrival", T, order(), sheet(PLAN, 20701, 7200, 18000), "18 4 0")
+audit("false spell", T, order(), sheet(PLAN, 20700, 7201, 18000), "18 4 0")
+audit("false shift", T, order(), sheet(PLAN, 20700, 7200, 17999), "18 4 0")
+audit("no moves, false header", LOOP, order(HOME), sheet([], 8, 5, 6), "18 1 0")
+
+# --- 19 stray, 14 short sheet --------------------------------------------------------------------
+both("ends at Lay", T, order(), sheet(PLAN[:2], 13500, 0, 10800), "19 2 0")
+both("no moves, source is not target", T, order(), sheet([]), "19 1 0")
+both("stray with a false header: stray", T, order(), sheet(PLAN[:1], 9, 9, 9), "19 2 0")
+retime("stray and short sheet: stray", T, order(), sheet(PLAN[:1]), 0, "19 2 0")
+retime("short by one byte", T, order(), TRUE, 55, "14 56 0")
+retime("no sheet at all", T, order(), TRUE, 0, "14 56 0")
+retime("no moves, 19 bytes", LOOP, order(HOME), sheet([]), 19, "14 20 0")
