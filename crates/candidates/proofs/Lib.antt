@@ -1,0 +1,3 @@
+-- The laws of candidates.
+pub mod Ranking
+pub mod Results
