@@ -1,0 +1,3 @@
+-- The definitions of the search's loop over plain lists.
+-- Assumes nothing.
+pub mod Settling
