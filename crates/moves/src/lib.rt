@@ -111,11 +111,12 @@ pub fn after_rest(run: Run, state: State) -> State
     requires { ⌜ (state .clock .0 ≤ 2000000000) × (run .order .rules .«rest_time» .0 ≤ 1000000) ⌝ }
     ensures { λ s. ⌜ s ≡ afterRest (run .order .rules) state ⌝ }
 {
+    let cleared = Wheel(0);
     State {
         junction: state.junction,
         clock: Clock(state.clock.0 + run.order.rules.rest_time.0),
-        spell: Wheel(0),
-        shift: Wheel(0),
+        spell: cleared,
+        shift: cleared,
     }
 }
 
