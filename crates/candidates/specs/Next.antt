@@ -18,7 +18,7 @@ abbrev pub aboveBound : Bound → State → Bool
 aboveBound Bound.Nothing t = true
 aboveBound (Bound.Above c) t = not (ranksNoHigher t c)
 
--- the cursor names the lowest uncovered successor above the bound; 0 where every one is covered
+-- the cursor names a successor above the bound, below which all others above the bound are covered; 0 where every one is covered
 pub record NextIs (trip : Trip) (labels : List State) (s : State) (bound : Bound) (cursor : ℕ) : Type 0 where
   pub names : 1 ≤ cursor → Names trip s cursor
   pub above : 1 ≤ cursor → T (aboveBound bound (resultAt trip s cursor))
