@@ -1,0 +1,107 @@
+-- Labels that compete for a node of the winner tree, and what mending the tree leaves. Assumes nothing.
+use mathlib.Core.Path.{_≡_}
+use mathlib.Core.Bool.{Bool, true, false}
+use mathlib.Core.List.{List}
+use mathlib.Core.Logic.{_⊎_}
+use Prim.Native.Nat.{ℕ, _+_, _*_, _/_, _%_, _≤_, _<_}
+use lib.ListN.{length, getD, set}
+use Rattle.moves.specs.declared.Run.{Run}
+use Rattle.moves.specs.declared.State.{State}
+use Rattle.moves.specs.Trip.{Trip}
+use Rattle.moves.specs.Runs.{tripIn}
+use Rattle.labels.specs.Run.{stride, cursorField, winnerField, at, cursorOf, settled}
+use Rattle.labels.specs.Tree.{Tree, Better, Mending, Entering}
+use Rattle.candidates.specs.Candidates.{rankNumber}
+use Rattle.winners.specs.declared.Contender.{Contender}
+use Rattle.winners.specs.Keys.{noKey, keyAt, Ready, OnlyWinners, Small}
+
+-- the key of a label with a candidate, or without
+abbrev pub numberOf : Bool → State → ℕ → ℕ
+numberOf true s k = rankNumber s * 4294967296 + k
+numberOf false s k = noKey
+
+abbrev pub contenderKey : Contender → ℕ
+contenderKey c = numberOf (c .live) (c .state) (c .label)
+
+-- label k without a candidate
+pub record Shut (k : ℕ) (c : Contender) : Type 0 where
+  pub is : c .label ≡ k
+  pub closed : c .live ≡ false
+  pub state : Small (c .state)
+
+-- what is compared is in words
+pub record Fit (c : Contender) : Type 0 where
+  pub label : c .label < 4294967296
+  pub state : Small (c .state)
+
+-- the contender is told as its label is
+pub record Stands (trip : Trip) (ws : List ℕ) (c : Contender) : Type 0 where
+  pub fit : Fit c
+  pub key : keyAt trip ws (c .label) ≡ contenderKey c
+
+-- it is label k
+pub record Named (trip : Trip) (ws : List ℕ) (k : ℕ) (c : Contender) : Type 0 where
+  pub is : c .label ≡ k
+  pub stands : Stands trip ws c
+
+-- r is the better of a and b
+pub record Best (a b r : Contender) : Type 0 where
+  pub one : (r ≡ a) ⊎ (r ≡ b)
+  pub first : contenderKey r ≤ contenderKey a
+  pub second : contenderKey r ≤ contenderKey b
+
+-- c is the best of l, k and r, and the winner of node k now
+pub record Decided (trip : Trip) (ws ws′ : List ℕ) (n l k r : ℕ) (c : Contender) : Type 0 where
+  pub between : ℕ
+  pub first : Better (keyAt trip ws) l k between
+  pub second : Better (keyAt trip ws) between r (c .label)
+  pub stored : ws′ ≡ set ws (at k winnerField) (c .label)
+  pub stands : Stands trip ws c
+  pub within : c .label ≤ n
+
+-- c has won below node j, and only the nodes above j are left to mend
+pub record Carries (map : List ℕ) (run : Run) (ws : List ℕ) (n j : ℕ) (c : Contender) : Type 0 where
+  pub ready : Ready map run ws n
+  pub mending : Mending (keyAt (tripIn map run) ws) ws n j (c .label)
+  pub stands : Stands (tripIn map run) ws c
+
+pub record Climbed (map : List ℕ) (run : Run) (ws ws′ : List ℕ) (n j : ℕ) (c : Contender) : Type 0 where
+  pub carries : Carries map run ws′ n j c
+  pub only : OnlyWinners ws ws′
+  pub long : length ws′ ≡ length ws
+
+-- the tree is right, and nothing but winners has changed
+pub record Mended (map : List ℕ) (run : Run) (ws ws′ : List ℕ) (n : ℕ) : Type 0 where
+  pub ready : Ready map run ws′ n
+  pub tree : Tree (keyAt (tripIn map run) ws′) ws′ n
+  pub only : OnlyWinners ws ws′
+
+-- label k has the cursor, the tree is right again, and nothing else has changed but winners
+pub record Advanced (map : List ℕ) (run : Run) (ws ws′ : List ℕ) (n k cursor : ℕ) : Type 0 where
+  pub ready : Ready map run ws′ n
+  pub tree : Tree (keyAt (tripIn map run) ws′) ws′ n
+  pub is-cursor : cursorOf ws′ k ≡ cursor
+  pub cursors : (m : ℕ) → 1 ≤ m → (m ≡ k → ⊥) → cursorOf ws′ m ≡ cursorOf ws m
+  pub others : (p : ℕ) → (p % stride ≡ winnerField → ⊥) → (p % stride ≡ cursorField → ⊥) → getD ws′ p 0 ≡ getD ws p 0
+  pub settled : settled ws′ n ≡ settled ws n
+
+-- label n + 1, told as c, has come in, and the nodes from j up are left to mend
+pub record Enters (map : List ℕ) (run : Run) (ws : List ℕ) (n j : ℕ) (c : Contender) : Type 0 where
+  pub ready : Ready map run ws (n + 1)
+  pub entering : Entering (keyAt (tripIn map run) ws) ws n j
+  pub named : Named (tripIn map run) ws (n + 1) c
+
+-- it has won node j, or else the tree is right
+pub record Placed (map : List ℕ) (run : Run) (ws ws′ : List ℕ) (n j : ℕ) (c : Contender) (won : Bool) : Type 0 where
+  pub more : won ≡ true → Enters map run ws′ n (j / 2) c
+  pub done : won ≡ false → Mended map run ws ws′ (n + 1)
+  pub only : OnlyWinners ws ws′
+  pub long : length ws′ ≡ length ws
+
+-- r has the least key of the labels 1 to n; it may be 0 where none has a candidate
+pub record Leads (trip : Trip) (ws : List ℕ) (n r : ℕ) : Type 0 where
+  pub within : r ≤ n
+  pub least : (m : ℕ) → 1 ≤ m → m ≤ n → keyAt trip ws r ≤ keyAt trip ws m
+
+abbrev pub Leading : List ℕ → ℕ → ℕ → Type 0
+Leading ws n r = (trip : Trip) → Tree (keyAt trip ws) ws n → Leads trip ws n r
