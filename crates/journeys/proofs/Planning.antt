@@ -6,8 +6,9 @@ use mathlib.Core.Logic.{_⊎_, inl, inr, ⊎-elim, _↔_}
 use mathlib.Core.Option.{Option, none, some}
 use Prim.Native.Nat.{ℕ, _≤_, _<_}
 use native.Mathlib.Omega.{arith}
-use borrow.Author.Tests.{lt-ltb, le-ltb, ltb-true, ltb-false}
-use lib.Dec.{ltb}
+use borrow.Author.Tests.{ne-eqb, lt-ltb, le-ltb, ltb-true, ltb-false}
+use lib.Dec.{ltb, eqb}
+use lib.ListN.{length}
 use Rattle.replies.specs.declared.Reply.{Reply}
 use Rattle.replies.specs.declared.Refusal.{Refusal}
 use Rattle.replies.specs.Told.{succeeded, refusedAt, toldRefusal}
@@ -23,8 +24,8 @@ use Rattle.moves.specs.Trip.{Trip}
 use Rattle.moves.proofs.Rising.{SoundTrip, sound-trip}
 use Rattle.journeys.specs.Journeys.{Journey}
 use Rattle.journeys.specs.Labels.{answerIn, labelCount}
-use Rattle.journeys.specs.Plan.{planMoves, moveCount, bytesNeeded}
-use Rattle.journeys.specs.Planning.{labelsThatFit, isNone, full, noRoad, shortSheet, searchTests, arrivalOf, planned, tripFrom, planTests, searchReply, planReply}
+use Rattle.journeys.specs.Plan.{planMoves, moveCount, bytesNeeded, plannedSheet}
+use Rattle.journeys.specs.Planning.{labelsThatFit, isNone, full, noRoad, shortSheet, searchTests, arrivalOf, planned, tripFrom, planTests, searchReply, planReply, planSheetWhen, planSheet}
 use Rattle.journeys.proofs.Labels.{none-answered, some-answered}
 use Rattle.journeys.proofs.Plan.{plan-journey, plan-short}
 
@@ -184,3 +185,25 @@ module _ (trip : Trip) (fit sheet : ℕ) where
 -- a plan whose labels fit has at most 999,999 moves
 pub plan-few : (trip : Trip) → SoundTrip trip → (words : ℕ) → labelCount trip ≤ labelsThatFit words → {a : State} → answerIn trip ≡ some a → moveCount trip ≤ 999999
 plan-few trip sound words room e = omega (arith, room, plan-short trip sound e)
+
+module _ (map order : List ℕ) (fit : ℕ) (before : List ℕ) where
+  abbrev told-number : ℕ
+  told-number = planReply map order fit (length before) .number
+
+  -- a plan is written whole
+  pub sheet-planned : told-number ≡ 0 → planSheet map order fit before ≡ plannedSheet (tripFrom map order) (answerIn (tripFrom map order)) before
+  unfolding planSheet
+  sheet-planned e = ap (λ (n : ℕ). planSheetWhen (eqb n 0) (tripFrom map order) before) e
+
+  -- a refusal leaves the sheet's bytes
+  pub sheet-refused : ¬ (told-number ≡ 0) → planSheet map order fit before ≡ before
+  unfolding planSheet
+  sheet-refused refused = ap (λ (b : Bool). planSheetWhen b (tripFrom map order) before) (ne-eqb _ _ refused)
+
+-- runs that differ only in label space: where neither is full the sheets are equal
+pub sheet-any-fit : (map order : List ℕ) (fit other : ℕ) (before : List ℕ)
+    → ¬ (planReply map order fit (length before) .number ≡ 12) → ¬ (planReply map order other (length before) .number ≡ 12)
+    → planSheet map order fit before ≡ planSheet map order other before
+unfolding planSheet
+sheet-any-fit map order fit other before f g =
+    ap (λ (r : Reply). planSheetWhen (eqb (r .number) 0) (tripFrom map order) before) (reply-any-fit map order fit other (length before) f g)

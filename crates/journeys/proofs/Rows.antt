@@ -10,18 +10,19 @@ use Rattle.moves.specs.declared.Move.{Move}
 use Rattle.moves.specs.Trip.{Trip}
 use Rattle.moves.specs.Moves.{move, after}
 use Rattle.moves.proofs.Rising.{SoundTrip}
+use Rattle.sheets.specs.declared.Row.{Row}
 use Rattle.journeys.specs.Journeys.{startIn, Leads, stay, go}
 use Rattle.journeys.specs.Labels.{labelCount, label, parentIn}
-use Rattle.journeys.specs.Plan.{oneMove, moveTo, planMoves, moveCount, PlanRow, rowsFrom, planRows}
+use Rattle.journeys.specs.Plan.{oneMove, moveTo, planMoves, moveCount, rowsFrom, planRows}
 use Rattle.journeys.proofs.ParentMove.{MoveTo, move-some}
 use Rattle.journeys.proofs.Plan.{movesAt, moves-first, moves-next, parent-lower, parent-move, MovesLead, moves-lead}
 
 -- a row's move
-abbrev pub rowMove : PlanRow → Move
+abbrev pub rowMove : Row → Move
 rowMove r = move (r .kind) (r .number)
 
 -- the row of a move that leads to t
-abbrev pub rowAt : Move → State → PlanRow
+abbrev pub rowAt : Move → State → Row
 rowAt m t = record { kind = m .kind; number = m .number; clock = t .clock .0 }
 
 module _ (trip : Trip) where
@@ -39,7 +40,7 @@ module _ (trip : Trip) where
   pub rows-append : {s t : State} {ms : List Move} → Leads trip s ms t → (ns : List Move) → rowsFrom trip s (ms ++ ns) ≡ rowsFrom trip s ms ++ rowsFrom trip t ns
   unfolding rowsFrom
   rows-append stay ns = refl
-  rows-append (go {s = s} {m = m} o l p) ns = ap (λ (rs : List PlanRow). rowAt m (after trip s m) ∷ rs) (rows-append p ns)
+  rows-append (go {s = s} {m = m} o l p) ns = ap (λ (rs : List Row). rowAt m (after trip s m) ∷ rs) (rows-append p ns)
 
   -- M rows
   pub plan-rows-length : length (planRows trip) ≡ moveCount trip
@@ -47,7 +48,7 @@ module _ (trip : Trip) where
   plan-rows-length = rows-length (startIn trip) (planMoves trip)
 
   -- the rows back from label i
-  abbrev pub rowsTo : ℕ → ℕ → List PlanRow
+  abbrev pub rowsTo : ℕ → ℕ → List Row
   rowsTo most i = rowsFrom trip (startIn trip) (movesAt trip most i)
 
   -- the parent's rows, and then the row of the parent's move with the label's own clock

@@ -9,8 +9,9 @@ use Rattle.replies.specs.Told.{succeeded}
 use Rattle.driving.specs.Order.{europeanRules}
 use Rattle.moves.specs.Trip.{Stretch, Trip}
 use Rattle.theory.specs.Lists.{every}
+use Rattle.sheets.specs.declared.Row.{Row}
 use Rattle.journeys.specs.Labels.{answerIn, labelsIn}
-use Rattle.journeys.specs.Plan.{PlanRow, planMoves, planRows}
+use Rattle.journeys.specs.Plan.{planMoves, planRows}
 use Rattle.journeys.specs.Planning.{searchReply}
 use Rattle.journeys.specs.Starred.{row, sameReply, sameRows}
 
@@ -18,7 +19,7 @@ use Rattle.journeys.specs.Starred.{row, sameReply, sameRows}
 record Worked : Type 0 where
   trip : Trip
   reply : Reply
-  rows : List PlanRow
+  rows : List Row
 
 abbrev road : ℕ → ℕ → ℕ → Stretch
 road from to seconds = record { from = from; to = to; seconds = seconds }

@@ -9,6 +9,9 @@ use Rattle.moves.specs.declared.State.{State}
 use Rattle.moves.specs.declared.Move.{Move}
 use Rattle.moves.specs.Trip.{Trip}
 use Rattle.moves.specs.Moves.{offered, after, legal}
+use Rattle.sheets.specs.declared.Row.{Row}
+use Rattle.sheets.specs.declared.Heading.{Heading}
+use Rattle.sheets.specs.Sheet.{sheetNeeded, sheetAfter}
 use Rattle.theory.specs.Labels.{parent}
 use Rattle.journeys.specs.Journeys.{startIn, succs}
 use Rattle.journeys.specs.Ranked.{sameState}
@@ -57,33 +60,26 @@ moveCount trip = length (planMoves trip)
 
 -- the sheet's length: five words, then M records of three words
 abbrev pub bytesNeeded : Trip → ℕ
-bytesNeeded trip = 20 + 12 * moveCount trip
+bytesNeeded trip = sheetNeeded (moveCount trip)
 
--- a record: kind, road number or pausing junction, clock after
-pub record PlanRow : Type 0 where
-  pub kind : ℕ
-  pub number : ℕ
-  pub clock : ℕ
-
-unfoldable pub rowsFrom : Trip → State → List Move → List PlanRow
+-- a record of the sheet: kind, road number or pausing junction, clock after
+unfoldable pub rowsFrom : Trip → State → List Move → List Row
 unfolding after
 rowsFrom trip s [] = []
 rowsFrom trip s (m ∷ ms) =
     let t = after trip s m in
     record { kind = m .kind; number = m .number; clock = t .clock .0 } ∷ rowsFrom trip t ms
 
-unfoldable pub planRows : Trip → List PlanRow
+unfoldable pub planRows : Trip → List Row
 unfolding rowsFrom planMoves
 planRows trip = rowsFrom trip (startIn trip) (planMoves trip)
 
 -- the header: moves M, arrival, spell, shift, N
-pub record PlanHeading : Type 0 where
-  pub moves : ℕ
-  pub arrival : ℕ
-  pub spell : ℕ
-  pub shift : ℕ
-  pub labels : ℕ
-
-abbrev pub headingAt : Trip → State → PlanHeading
+abbrev pub headingAt : Trip → State → Heading
 headingAt trip a =
     record { moves = moveCount trip; arrival = a .clock .0; spell = a .spell .0; shift = a .shift .0; labels = labelCount trip }
+
+-- the sheet afterwards, where there is an answer: header and records, bytes after 20 + 12M stay
+abbrev pub plannedSheet : Trip → Option State → List ℕ → List ℕ
+plannedSheet trip none before = before
+plannedSheet trip (some a) before = sheetAfter (headingAt trip a) (planRows trip) before

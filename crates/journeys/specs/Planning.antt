@@ -1,9 +1,10 @@
--- The reply of planning, for every input. Document 01, "Replies". Assumes nothing.
+-- The reply of planning and the sheet afterwards, for every input. Document 01, "Replies". Assumes nothing.
 use mathlib.Core.Bool.{Bool, true, false}
 use mathlib.Core.List.{List, [], _∷_, _++_}
 use mathlib.Core.Option.{Option, none, some}
 use Prim.Native.Nat.{ℕ, _/_, min}
-use lib.Dec.{ltb}
+use lib.Dec.{ltb, eqb}
+use lib.ListN.{length}
 use Rattle.replies.specs.declared.Reply.{Reply}
 use Rattle.replies.specs.Told.{succeeded}
 use Rattle.replies.specs.First.{Test, _at_, placed, firstOf}
@@ -13,7 +14,7 @@ use Rattle.driving.specs.Order.{orderOf, orderTests}
 use Rattle.moves.specs.declared.State.{State}
 use Rattle.moves.specs.Trip.{Trip, tripOf}
 use Rattle.journeys.specs.Labels.{answerIn, labelCount}
-use Rattle.journeys.specs.Plan.{bytesNeeded}
+use Rattle.journeys.specs.Plan.{bytesNeeded, plannedSheet}
 
 -- the labels that fit are the smaller of 1,000,000 and the whole labels in the run; eight words make one label
 abbrev pub labelsThatFit : ℕ → ℕ
@@ -63,3 +64,13 @@ planTests map order fit sheet =
 unfoldable pub planReply : List ℕ → List ℕ → ℕ → ℕ → Reply
 unfolding firstOf
 planReply map order fit sheet = firstOf (planTests map order fit sheet) (planned (tripFrom map order))
+
+-- the sheet's bytes afterwards: the plan where planning succeeds, and else as they were
+abbrev pub planSheetWhen : Bool → Trip → List ℕ → List ℕ
+planSheetWhen true trip before = plannedSheet trip (answerIn trip) before
+planSheetWhen false trip before = before
+
+unfoldable pub planSheet : List ℕ → List ℕ → ℕ → List ℕ → List ℕ
+unfolding planReply
+planSheet map order fit before =
+    planSheetWhen (eqb (planReply map order fit (length before) .number) 0) (tripFrom map order) before

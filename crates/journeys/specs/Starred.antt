@@ -17,9 +17,10 @@ use Rattle.moves.specs.declared.State.{State}
 use Rattle.moves.specs.Trip.{Trip, tripOf}
 use Rattle.moves.specs.Moves.{move, after, legal}
 use Rattle.theory.specs.Lists.{every}
+use Rattle.sheets.specs.declared.Row.{Row}
 use Rattle.journeys.specs.Ranked.{sameState, covers, dominatesState}
 use Rattle.journeys.specs.Labels.{answerIn, labelsIn}
-use Rattle.journeys.specs.Plan.{planMoves, PlanRow, planRows}
+use Rattle.journeys.specs.Plan.{planMoves, planRows}
 use Rattle.journeys.specs.Planning.{planReply, tripFrom}
 
 -- the bytes of a list of words, little-endian
@@ -53,7 +54,7 @@ pub data Case : Type 0 where
   -- T's answer has these figures
   answers : (clock spell shift : ℕ) → Case
   -- T's rows: kind, number, clock after
-  lists : List PlanRow → Case
+  lists : List Row → Case
   -- T with this latest arrival, labels that fit and sheet length gets this reply
   replies : (latest fit sheet : ℕ) → Reply → Case
   -- at Lay with this spell, road 2 of 7,200 seconds is legal or not
@@ -61,7 +62,7 @@ pub data Case : Type 0 where
   -- the first state dominates the second or not
   dominating : State → State → Bool → Case
 
-abbrev pub row : ℕ → ℕ → ℕ → PlanRow
+abbrev pub row : ℕ → ℕ → ℕ → Row
 row kind number clock = record { kind = kind; number = number; clock = clock }
 
 abbrev pub sameBool : Bool → Bool → Bool
@@ -71,7 +72,7 @@ sameBool false b = not b
 abbrev pub sameReply : Reply → Reply → Bool
 sameReply a b = eqb (a .number) (b .number) && (eqb (a .place) (b .place) && eqb (a .arrival) (b .arrival))
 
-abbrev pub sameRows : List PlanRow → List PlanRow → Bool
+abbrev pub sameRows : List Row → List Row → Bool
 sameRows [] [] = true
 sameRows [] (b ∷ rest) = false
 sameRows (a ∷ more) [] = false
