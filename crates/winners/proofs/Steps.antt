@@ -14,15 +14,15 @@ use Rattle.moves.specs.declared.Run.{Run}
 use Rattle.moves.specs.Trip.{Trip}
 use Rattle.moves.specs.Runs.{Accepted, InRange, tripIn}
 use Rattle.labels.specs.declared.Label.{Label}
-use Rattle.labels.specs.Run.{stride, cursorField, winnerField, at, labelAt, cursorOf, winnerOf, settled, Added, WinnerWithin}
+use Rattle.labels.specs.Run.{stride, junctionField, clockField, spellField, shiftField, previousField, cursorField, winnerField, at, labelAt, cursorOf, winnerOf, settled, SameLabels, Added, WinnerWithin}
 use Rattle.labels.specs.Tree.{Tree, TreeBut, Better, Stored, Mending, Entering}
 use Rattle.labels.proofs.Run.{set-same, set-field, set-label, set-labels, kept-field, kept-labels, same-label, settled-same, settled-set}
 use Rattle.labels.proofs.Tree.{under-self, beyond, beside, changed, mend-first, mend-step, mend-end, rekey, rekey-mending, rekey-entering, enter-added, enter-step, enter-stop, enter-end, stored, root-least, root-small}
 use Rattle.candidates.specs.Candidates.{stateOf, Cursor}
 use Rattle.winners.specs.declared.Contender.{Contender}
-use Rattle.winners.specs.Keys.{keyAt, Sound, Ready, OnlyWinners}
+use Rattle.winners.specs.Keys.{noKey, keyAt, Sound, Ready, OnlyWinners}
 use Rattle.winners.specs.Mending.{Stands, Named, Best, Decided, Carries, Climbed, Mended, Advanced, Enters, Placed, Leads}
-use Rattle.winners.proofs.Keys.{key-none, key-top, same-key, same-sound, only-labels, key-kept, ready-kept}
+use Rattle.winners.proofs.Keys.{key-none, key-below, key-top, same-key, same-sound, only-labels, key-kept, ready-kept}
 use Rattle.winners.proofs.Contenders.{best-better, stands-kept}
 
 -- A store of winners.
@@ -247,3 +247,23 @@ module _ {ws ws′ : List ℕ} {n : ℕ} {label : Label} {parent cursor : ℕ} (
 -- The root's winner leads.
 pub leads : (trip : Trip) (ws : List ℕ) (n : ℕ) → 1 ≤ n → Tree (keyAt trip ws) ws n → Leads trip ws n (winnerOf ws 1)
 leads trip ws n low T = record { within = root-small (keyAt trip ws) ws n low T; least = root-least (keyAt trip ws) ws n low T }
+
+-- where it has no candidate, no label has one
+pub none-left :
+    (map : List ℕ) (run : Run) (ws : List ℕ) (n r : ℕ) → Accepted map run → Ready map run ws n → Leads (tripIn map run) ws n r → noKey ≤ keyAt (tripIn map run) ws r
+    → (m : ℕ) → 1 ≤ m → m ≤ n → cursorOf ws m ≡ 0
+none-left map run ws n r accepted R L none m low high = go (decLe (cursorOf ws m) 0)
+  where
+    go : Dec (cursorOf ws m ≤ 0) → cursorOf ws m ≡ 0
+    go (yes h) = omega arith
+    go (no h) = absurd (omega (arith, key-below map run accepted ws m low (R m low high) (omega arith), L .least m low high))
+
+-- the labels and their links are as they were when a cursor has changed
+pub advanced-labels : {map : List ℕ} {run : Run} {ws ws′ : List ℕ} {n k cursor : ℕ} → Advanced map run ws ws′ n k cursor → SameLabels ws ws′ n
+advanced-labels A = record {
+  junctions = λ m low high. A .others (at m junctionField) (λ e. omega arith) (λ e. omega arith);
+  clocks = λ m low high. A .others (at m clockField) (λ e. omega arith) (λ e. omega arith);
+  spells = λ m low high. A .others (at m spellField) (λ e. omega arith) (λ e. omega arith);
+  shifts = λ m low high. A .others (at m shiftField) (λ e. omega arith) (λ e. omega arith);
+  previous = λ m low high. A .others (at m previousField) (λ e. omega arith) (λ e. omega arith);
+}
