@@ -27,7 +27,7 @@ use Rattle.candidates.specs.Trying.{Weighed, Tried}
 use Rattle.candidates.proofs.Results.{move-drive, move-break, move-rest, result-break, result-rest}
 use Rattle.candidates.proofs.Trials.{tried-over, tried-next}
 
-same-move : (m : Move) (kind number : ℕ) → eqb (m .kind) kind ≡ true → eqb (m .number) number ≡ true → m ≡ move kind number
+pub same-move : (m : Move) (kind number : ℕ) → eqb (m .kind) kind ≡ true → eqb (m .number) number ≡ true → m ≡ move kind number
 same-move m kind number k n = λ i. move (eqb-true (m .kind) kind k i) (eqb-true (m .number) number n i)
 
 module _ (map : List ℕ) (o : Order) (s : State) where

@@ -44,7 +44,7 @@ before R zero c high end = record { within = omega arith; below = λ road. absur
 before R (suc k) c high end = record { within = omega arith; below = λ road. end }
 
 -- an accepted map's links are to the lowest roads
-accepted-made : (map : List ℕ) → AcceptedMap map → MapMade map
+pub accepted-made : (map : List ℕ) → AcceptedMap map → MapMade map
 accepted-made map accepted =
     let content = accepted .1 .1 .1 .1 in
     map-made map (links-of map (content .0) (content .1 .0)) (lowest-is-none _ 1 _ (content .1 .1 .0))

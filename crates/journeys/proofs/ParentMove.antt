@@ -109,12 +109,12 @@ module _ (trip : Trip) (p t : State) where
     pub lawful : legal (trip .order) (after trip p m) ≡ true
     pub result : after trip p m ≡ t
 
-  test-move : (m : Move) → movesTo trip p t m ≡ true → (legal (trip .order) (after trip p m) ≡ true) × (after trip p m ≡ t)
+  pub test-move : (m : Move) → movesTo trip p t m ≡ true → (legal (trip .order) (after trip p m) ≡ true) × (after trip p m ≡ t)
   test-move m e =
       let both = and-true {a = legal (trip .order) (after trip p m)} e in
       (both .0, same-decides .same (after trip p m) t (true-T (both .1)))
 
-  move-test : (m : Move) → legal (trip .order) (after trip p m) ≡ true → after trip p m ≡ t → movesTo trip p t m ≡ true
+  pub move-test : (m : Move) → legal (trip .order) (after trip p m) ≡ true → after trip p m ≡ t → movesTo trip p t m ≡ true
   move-test m l e = rw (l, ap (λ (z : State). sameState (after trip p m) z) (sym e)) (T-true (same-decides .self (after trip p m)))
 
   -- the first that passes: a member that passes, before every other that does

@@ -1,0 +1,77 @@
+-- Counting the moves back from the last label to the first. Assumes nothing.
+use mathlib.Core.Path.{_≡_, ap, subst}
+use mathlib.Core.List.{List, [], _∷_}
+use Prim.Native.Nat.{ℕ, _+_, _-_, _≤_, _<_}
+use native.Mathlib.Omega.{arith}
+use lib.ListN.{length, length-append}
+use Rattle.moves.specs.declared.Run.{Run}
+use Rattle.moves.specs.Trip.{Trip}
+use Rattle.moves.specs.Runs.{Accepted, tripIn}
+use Rattle.moves.proofs.Rising.{SoundTrip, sound-trip}
+use Rattle.labels.specs.Run.{parentOf}
+use Rattle.journeys.specs.Labels.{label, parentIn}
+use Rattle.journeys.specs.Plan.{moveCount}
+use Rattle.journeys.proofs.Rows.{rowAt, plan-rows-length}
+use Rattle.plans.specs.Held.{Holds, Found, Descends, CountsMoves}
+use Rattle.plans.proofs.Back.{rowsBack, back-first, back-next, plan-back}
+
+pub run-sound : (map : List ℕ) (run : Run) → Accepted map run → SoundTrip (tripIn map run)
+run-sound map run accepted = sound-trip map (run .order) (accepted .mapped) (accepted .ordered)
+
+module _ (trip : Trip) (words : List ℕ) (n : ℕ) (held : Holds trip words n) where
+  -- the word of a label's parent, by number
+  pub parent-word : (k : ℕ) → 1 < k → k ≤ n → parentOf words k ≡ parentIn trip (label trip (k - 1)) + 1
+  parent-word k low high =
+      let back : k - 1 + 1 ≡ k = omega arith in
+      subst (λ (j : ℕ). parentOf words j ≡ parentIn trip (label trip (k - 1)) + 1) back (held .parents (k - 1) (omega arith) (omega arith))
+
+  pub held-descends : Descends words n
+  held-descends =
+      record {
+        low = held .low;
+        fits = held .fits;
+        parents = λ k low high.
+            record {
+              low = omega (arith, parent-word k low high);
+              below = omega (arith, parent-word k low high, held .before (k - 1) (omega arith) (omega arith));
+            };
+      }
+
+-- m moves counted, and those to label k yet to count
+pub record Counting (words : List ℕ) (n k m : ℕ) : Type 0 where
+  pub low : 1 ≤ k
+  pub few : m + k ≤ n
+  pub counts : (map : List ℕ) (run : Run) → Found map run words n → moveCount (tripIn map run) ≡ m + length (rowsBack (tripIn map run) (k - 1))
+
+module _ (words : List ℕ) (n : ℕ) where
+  pub count-first : 1 ≤ n → Counting words n n 0
+  count-first low =
+      record {
+        low = low;
+        few = omega arith;
+        counts = λ map run found.
+            omega (arith, plan-rows-length (tripIn map run), ap length (plan-back (tripIn map run) (run-sound map run (found .accepted)) (found .answered) (n - 1) (omega (arith, found .held .count))));
+      }
+
+  pub count-next : Descends words n → (k m : ℕ) → Counting words n k m → 1 < k → Counting words n (parentOf words k) (m + 1)
+  count-next descends k m counting more =
+      let high : k ≤ n = omega (arith, counting .few) in
+      let parent = descends .parents k more high in
+      record {
+        low = parent .low;
+        few = omega (arith, parent .below, counting .few);
+        counts = λ map run found. one-more map run found high;
+      }
+    where
+      one-more : (map : List ℕ) (run : Run) → Found map run words n → k ≤ n → moveCount (tripIn map run) ≡ m + 1 + length (rowsBack (tripIn map run) (parentOf words k - 1))
+      one-more map run found high =
+          let trip : Trip = tripIn map run in
+          let back = back-next trip (run-sound map run (found .accepted)) (k - 1) (omega arith) (omega (arith, found .held .count)) in
+          let p : ℕ = parentIn trip (label trip (k - 1)) in
+          let at-parent : parentOf words k - 1 ≡ p = omega (arith, parent-word trip words n (found .held) k more high) in
+          rw at-parent (omega (arith, counting .counts map run found, ap length (back .rows), length-append (rowsBack trip p) (rowAt (back .by-move) (label trip (k - 1)) ∷ [])))
+
+  pub count-end : (k m : ℕ) → Counting words n k m → k ≤ 1 → CountsMoves words n m
+  count-end k m counting end map run found =
+      let first : k - 1 ≡ 0 = omega (arith, counting .low) in
+      omega (arith, counting .counts map run found, ap (λ (i : ℕ). length (rowsBack (tripIn map run) i)) first, ap length (back-first (tripIn map run) (run-sound map run (found .accepted))))

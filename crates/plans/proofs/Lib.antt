@@ -1,0 +1,10 @@
+-- The laws of reading a plan back.
+-- Assumes nothing.
+pub mod Same
+pub mod Leading
+pub mod Walk
+pub mod Back
+pub mod Counted
+pub mod Read
+pub mod Backward
+pub mod Ending

@@ -1,0 +1,82 @@
+-- The walk along a junction's chain: no road before the present one leads legally to t. Assumes nothing.
+use mathlib.Core.Path.{_≡_, _∙_, subst}
+use mathlib.Core.Bool.{true, false, _&&_}
+use mathlib.Core.List.{List}
+use mathlib.Core.Logic.{⊎-elim}
+use Prim.Native.Nat.{ℕ, _+_, _-_, _≤_, _<_}
+use native.Mathlib.Omega.{arith}
+use native.Mathlib.Nat.{eq-or-lt-of-le}
+use Rattle.replies.proofs.First.{not-both}
+use Rattle.roadmap.specs.Format.{junctionCount, roadCount, firstRoad, nextRoad, roadFrom}
+use Rattle.mapcheck.specs.MapCheck.{AcceptedMap}
+use Rattle.mapcheck.proofs.Listed.{LowestFrom, lowest-from}
+use Rattle.driving.specs.declared.Order.{Order}
+use Rattle.moves.specs.declared.State.{State}
+use Rattle.moves.specs.Trip.{tripOf, stretchOf}
+use Rattle.moves.specs.Moves.{move, driven, legal}
+use Rattle.journeys.specs.Ranked.{sameState}
+use Rattle.journeys.specs.Plan.{movesTo}
+use Rattle.candidates.proofs.Roads.{upTo, at-road, at-end, accepted-made}
+use Rattle.plans.specs.Moving.{Drives, RoadTo}
+use Rattle.plans.proofs.Leading.{drive-leads, road-offered, offered-road}
+
+module _ (map : List ℕ) (o : Order) (p t : State) where
+  pub record Walking (r : ℕ) : Type 0 where
+    pub within : r ≤ roadCount map
+    pub own : 1 ≤ r → roadFrom map r ≡ p .junction
+    -- a road that leads to t is not before r
+    pub ahead : (k : ℕ) → Drives (tripOf map o) p t k → upTo (roadCount map) r ≤ k
+
+  -- from road k on the walk goes to the lowest road of the junction
+  onward : (k n x : ℕ) → k + n ≡ roadCount map + 1 → LowestFrom (roadFrom map) (p .junction) k n x
+      → ((c : ℕ) → Drives (tripOf map o) p t c → k ≤ c) → Walking x
+  onward k n x all at from =
+      record {
+        within = omega (arith, at .high);
+        own = at .own;
+        ahead = λ c drives.
+            let road = offered-road map o p t c (drives .offered) in
+            let least = at .least c (from c drives) (omega (arith, road .high)) (road .own) in
+            rw (at-road (roadCount map) x (least .0)) (least .1);
+      }
+
+  module _ (accepted : AcceptedMap map) where
+    pub walk-first : 1 ≤ p .junction → p .junction ≤ junctionCount map → Walking (firstRoad map (p .junction))
+    walk-first low high =
+        onward 1 (roadCount map) _ (omega arith)
+        (rw (accepted-made map accepted .first-lowest (p .junction) low high) (lowest-from (roadFrom map) (p .junction) 1 (roadCount map) (omega arith)))
+        (λ c drives. offered-road map o p t c (drives .offered) .low)
+
+    pub walk-next : (r : ℕ) (s : State) → Walking r → 1 ≤ r → s ≡ driven (stretchOf map r) p → (legal o s && sameState s t) ≡ false → Walking (nextRoad map r)
+    walk-next r s walking low is fails =
+        let high : r ≤ roadCount map = walking .within in
+        onward (r + 1) (roadCount map - r) _ (omega arith)
+        (subst (λ (j : ℕ). LowestFrom (roadFrom map) j (r + 1) (roadCount map - r) (nextRoad map r)) (walking .own low)
+        (rw (accepted-made map accepted .next-lowest r low high) (lowest-from (roadFrom map) (roadFrom map r) (r + 1) (roadCount map - r) (omega arith))))
+        (λ c drives.
+        ⊎-elim
+        (λ (same : r ≡ c).
+        absurd (not-both (drives .leads) (subst (λ (k : ℕ). movesTo (tripOf map o) p t (move 1 k) ≡ false) same (drive-leads map o p t r s low high is ∙ fails))))
+        (λ (less : r < c). omega arith)
+        (eq-or-lt-of-le {n = r} {m = c} (subst (λ (k : ℕ). k ≤ c) (at-road (roadCount map) r low) (walking .ahead c drives))))
+
+  -- the first that leads to t is the lowest
+  pub walk-found : (r : ℕ) (s : State) → Walking r → 1 ≤ r → s ≡ driven (stretchOf map r) p → (legal o s && sameState s t) ≡ true → RoadTo (tripOf map o) p t r
+  walk-found r s walking low is leads =
+      record {
+        drives = λ some.
+            record {
+              offered = road-offered map o p t r low (walking .within) (walking .own low);
+              leads = drive-leads map o p t r s low (walking .within) is ∙ leads;
+            };
+        lowest = λ k drives. (low, subst (λ (x : ℕ). x ≤ k) (at-road (roadCount map) r low) (walking .ahead k drives));
+      }
+
+  -- and at the chain's end there is none
+  pub walk-end : (r : ℕ) → Walking r → r ≤ 0 → RoadTo (tripOf map o) p t 0
+  walk-end r walking end =
+      record {
+        drives = λ some. absurd (omega arith);
+        lowest = λ k drives.
+            absurd (omega (arith, offered-road map o p t k (drives .offered) .high, subst (λ (x : ℕ). x ≤ k) (at-end (roadCount map) r end) (walking .ahead k drives)));
+      }

@@ -1,0 +1,10 @@
+use mathlib.Core.Path.{refl}
+use borrow.Author.Needs.{needs}
+use Rattle.plans.proofs.row_for.Statement.{statement}
+use Rattle.plans.proofs.row_for.Tie as tie
+
+returns : tie.Need-returns
+returns c = record { by = c .move-to .result; lowest = c .move-to .ensures; is = refl }
+
+pub row-for-spec : {M : Type 1} → statement M
+row-for-spec = tie.close (tie.spec (λ c κs. search needs) returns)

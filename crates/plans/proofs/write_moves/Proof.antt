@@ -1,0 +1,118 @@
+-- Before label k all records but those to it are written.
+use mathlib.Core.Path.{_∙_, ap}
+use Prim.Native.Nat.{ℕ}
+use native.Mathlib.Omega.{arith}
+use borrow.Author.Needs.{needs}
+use Rattle.moves.specs.Runs.{tripIn}
+use Rattle.labels.specs.Run.{parentOf, labelAt}
+use Rattle.candidates.specs.Candidates.{stateOf}
+use Rattle.plans.proofs.Counted.{held-descends}
+use Rattle.plans.proofs.Read.{label-range, parent-leads}
+use Rattle.plans.proofs.Backward.{Writing, write-first, write-fits, write-some, write-next, write-end}
+use Rattle.plans.proofs.write_moves.Statement.{statement}
+use Rattle.plans.proofs.write_moves.Tie as tie
+
+abbrev Inv-loop : tie.InvT-loop
+Inv-loop map run words n m sheet₀ k₀ left₀ sheet k left = Writing (tripIn map run) n sheet₀ sheet k left
+
+abbrev μ-loop : tie.MeasureT-loop
+μ-loop map run words n m sheet₀ k₀ left₀ sheet k left = k
+
+loop-holds : tie.Need-loop-holds Inv-loop μ-loop
+loop-holds c =
+    let start = c .before .before .before in
+    let args = start .args in
+    write-first (args .map .now) (args .run) (args .words .now) (args .n) (start .pre .0) (args .sheet .now) (args .m) (start .pre .1 .0)
+
+parent-requires : tie.Need-parent-requires Inv-loop μ-loop
+parent-requires c κs =
+    let at-loop = c .before in
+    let start = at-loop .before .before .before .before in
+    let args = start .args in
+    (at-loop .loop .inv .low, omega (arith, start .pre .0 .held .fits, at-loop .loop .inv .high))
+
+state-at-requires : tie.Need-state-at-requires Inv-loop μ-loop
+state-at-requires c κs =
+    let at-loop = c .before .before in
+    let start = at-loop .before .before .before .before in
+    let args = start .args in
+    let parent = held-descends (tripIn (args .map .now) (args .run)) (args .words .now) (args .n) (start .pre .0 .held) .parents (at-loop .loop .k) (c .before .loop-test .taken) (at-loop .loop .inv .high) in
+    (omega (arith, c .parent .ensures, parent .low), omega (arith, c .parent .ensures, parent .below, at-loop .loop .inv .high, start .pre .0 .held .fits))
+
+state-at-requires-2 : tie.Need-state-at-requires-2 Inv-loop μ-loop
+state-at-requires-2 c κs =
+    let at-loop = c .before .before .before in
+    let start = at-loop .before .before .before .before in
+    let args = start .args in
+    (at-loop .loop .inv .low, omega (arith, start .pre .0 .held .fits, at-loop .loop .inv .high))
+
+row-for-requires : tie.Need-row-for-requires Inv-loop μ-loop
+row-for-requires c κs =
+    let at-loop = c .before .before .before .before in
+    let start = at-loop .before .before .before .before in
+    let args = start .args in
+    let parent = held-descends (tripIn (args .map .now) (args .run)) (args .words .now) (args .n) (start .pre .0 .held) .parents (at-loop .loop .k) (c .before .before .before .loop-test .taken) (at-loop .loop .inv .high) in
+    rw (c .state-at2 .ensures, c .before .state-at .ensures, c .before .before .parent .ensures)
+    (start .pre .0 .accepted, (label-range (args .map .now) (args .run) (args .words .now) (args .n) (start .pre .0) (parentOf (args .words .now) (at-loop .loop .k)) (parent .low) (omega (arith, parent .below, at-loop .loop .inv .high)), parent-leads (args .map .now) (args .run) (args .words .now) (args .n) (start .pre .0) (at-loop .loop .k) (c .before .before .before .loop-test .taken) (at-loop .loop .inv .high)))
+
+write-row-requires : tie.Need-write-row-requires Inv-loop μ-loop
+write-row-requires c κs =
+    let at-loop = c .before .before .before .before .before .before in
+    let start = at-loop .before .before .before .before in
+    let args = start .args in
+    (write-some (args .map .now) (args .run) (args .words .now) (args .n) (start .pre .0) (args .sheet .now) (at-loop .loop .sheet) (at-loop .loop .k) (at-loop .loop .left) (at-loop .loop .inv) (c .before .before .before .before .before .loop-test .taken), omega (arith, start .pre .1, at-loop .loop .inv .long, write-fits (args .map .now) (args .run) (args .words .now) (args .n) (start .pre .0) (args .sheet .now) (at-loop .loop .sheet) (at-loop .loop .k) (at-loop .loop .left) (at-loop .loop .inv)))
+
+sub-left : tie.Need-sub-left Inv-loop μ-loop
+sub-left c =
+    let at-loop = c .before .before .before .before .before .before .before .before .before in
+    let start = at-loop .before .before .before .before in
+    let args = start .args in
+    write-some (args .map .now) (args .run) (args .words .now) (args .n) (start .pre .0) (args .sheet .now) (at-loop .loop .sheet) (at-loop .loop .k) (at-loop .loop .left) (at-loop .loop .inv) (c .before .before .before .before .before .before .before .before .loop-test .taken)
+
+loop-less : tie.Need-loop-less Inv-loop μ-loop
+loop-less c =
+    let at-loop = c .before .before .before .before .before .before .before .before .before in
+    let start = at-loop .before .before .before .before in
+    let args = start .args in
+    omega (arith, c .before .before .before .before .before .before .before .parent .ensures, held-descends (tripIn (args .map .now) (args .run)) (args .words .now) (args .n) (start .pre .0 .held) .parents (at-loop .loop .k) (c .before .before .before .before .before .before .before .before .loop-test .taken) (at-loop .loop .inv .high) .below)
+
+loop-again : tie.Need-loop-again Inv-loop μ-loop
+loop-again c =
+    let at-loop = c .before .before .before .before .before .before .before .before .before in
+    let start = at-loop .before .before .before .before in
+    let args = start .args in
+    let parent = c .before .before .before .before .before .before .before .parent in
+    let from = c .before .before .before .before .before .before .state-at .ensures ∙ ap (λ (j : ℕ). stateOf (labelAt (args .words .now) j)) (parent .ensures) in
+    rw (c .before .before .write-row .ensures, parent .ensures)
+    (write-next (args .map .now) (args .run) (args .words .now) (args .n) (start .pre .0) (args .sheet .now) (at-loop .loop .sheet) (at-loop .loop .k) (at-loop .loop .left) (c .before .before .before .before .row-for .result) (at-loop .loop .inv) (c .before .before .before .before .before .before .before .before .loop-test .taken) (omega (arith, start .pre .1))
+    (rw (from, c .before .before .before .before .before .state-at2 .ensures) at (c .before .before .before .before .row-for .ensures)))
+
+same-length : tie.Need-same-length Inv-loop μ-loop
+same-length c =
+    c .before .loop .inv .long
+
+returns : tie.Need-returns Inv-loop μ-loop
+returns c =
+    let at-loop = c .before in
+    let start = at-loop .before .before .before .before in
+    let args = start .args in
+    write-end (args .map .now) (args .run) (args .words .now) (args .n) (start .pre .0) (args .sheet .now) (at-loop .loop .sheet) (at-loop .loop .k) (at-loop .loop .left) (at-loop .loop .inv) (c .loop-test .left)
+
+pub write-moves-spec : {M : Type 1} → statement M
+write-moves-spec =
+    tie.close
+    (tie.spec
+    Inv-loop
+    μ-loop
+    loop-holds
+    parent-requires
+    (λ c. search needs)
+    state-at-requires
+    state-at-requires-2
+    row-for-requires
+    write-row-requires
+    sub-left
+    loop-less
+    loop-again
+    same-length
+    returns)

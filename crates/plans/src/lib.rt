@@ -1,0 +1,153 @@
+// Reading a plan back from settled labels: the moves that lead to them, how many, and their records.
+ghost use mathlib.Core.Path.{_≡_};
+ghost use mathlib.Core.Bool.{_&&_};
+ghost use mathlib.Core.Option.{some};
+ghost use Prim.Native.Nat.{_*_, _≤_};
+ghost use lib.ListN.{length};
+ghost use Rattle.roadmap.specs.Format.{junctionCount};
+ghost use Rattle.moves.specs.Moves.{legal};
+ghost use Rattle.moves.specs.Runs.{Accepted, InRange, tripIn};
+ghost use Rattle.sheets.specs.Sheet.{sheetNeeded};
+ghost use Rattle.sheets.specs.Written.{backward};
+ghost use Rattle.journeys.specs.Ranked.{sameState};
+ghost use Rattle.journeys.specs.Plan.{moveTo, moveCount, planRows};
+ghost use Rattle.labels.specs.Run.{stride, labelAt};
+ghost use Rattle.candidates.specs.Candidates.{stateOf};
+ghost use Rattle.plans.specs.Moving.{SomeMove, RoadTo};
+ghost use Rattle.plans.specs.Held.{Found, Descends, CountsMoves};
+ghost use Rattle.plans.specs.Rows.{RowFor};
+use driving::Order;
+use moves::Move;
+use moves::Run;
+use moves::State;
+use sheets::Row;
+
+fn same_state(b: State, a: State) -> bool
+    ensures { λ r. ⌜ r ≡ sameState b a ⌝ }
+{
+    if b.junction != a.junction {
+        return false;
+    }
+    if b.clock.0 != a.clock.0 {
+        return false;
+    }
+    if b.spell.0 != a.spell.0 {
+        return false;
+    }
+    b.shift.0 == a.shift.0
+}
+
+// Whether a state is legal and is t.
+fn leads_to(order: Order, state: State, t: State) -> bool
+    ensures { λ r. ⌜ r ≡ (legal order state && sameState state t) ⌝ }
+{
+    if !moves::is_legal(order, state) {
+        return false;
+    }
+    same_state(state, t)
+}
+
+// The lowest road whose drive leads legally to t, 0 where none does. A chain lists a junction's roads rising.
+fn road_to(map: &[u8], run: Run, p: State, t: State) -> u32
+    requires { ⌜ Accepted (now map) run ⌝ }
+    requires { ⌜ InRange (junctionCount (now map)) (run .order) p ⌝ }
+    ensures { λ r. ⌜ RoadTo (tripIn (now (map .entry)) run) p t r ⌝ }
+{
+    let sizes = run.sizes;
+    let order = run.order;
+    let mut r = roadmap::first_road(map, sizes, p.junction);
+    while 0 < r {
+        let reached = moves::after_drive(map, run, p, r);
+        if leads_to(order, reached, t) {
+            return r;
+        }
+        r = roadmap::next_road(map, sizes, r);
+    }
+    0
+}
+
+// The parent's move to t: the lowest kind, then the lowest road. Where no road leads there some pause
+// does, so the junction is a car park without asking, and where the break does not, the rest does.
+pub fn move_to(map: &[u8], run: Run, p: State, t: State) -> Move
+    requires { ⌜ Accepted (now map) run ⌝ }
+    requires { ⌜ InRange (junctionCount (now map)) (run .order) p ⌝ }
+    requires { ⌜ SomeMove (tripIn (now map) run) p t ⌝ }
+    ensures { λ m. ⌜ moveTo (tripIn (now (map .entry)) run) p t ≡ some m ⌝ }
+{
+    let order = run.order;
+    let here = p.junction;
+    let road = road_to(map, run, p, t);
+    if 0 < road {
+        return Move {
+            kind: Move::DRIVE,
+            number: road,
+        };
+    }
+    let paused = moves::after_break(run, p);
+    if leads_to(order, paused, t) {
+        return Move {
+            kind: Move::BREAK,
+            number: here,
+        };
+    }
+    Move {
+        kind: Move::REST,
+        number: here,
+    }
+}
+
+// How many moves lead to the last label, along the parents.
+pub fn count_moves(words: &[u32], n: usize) -> usize
+    requires { ⌜ Descends (now words) n ⌝ }
+    ensures { λ m. ⌜ CountsMoves (now (words .entry)) n m ⌝ }
+{
+    let mut k = n;
+    let mut m = 0;
+    while 1 < k {
+        k = labels::parent(words, k) as usize;
+        m += 1;
+    }
+    m
+}
+
+fn state_at(words: &[u32], k: usize) -> State
+    requires { ⌜ (1 ≤ k) × (stride * k ≤ length (now words)) ⌝ }
+    ensures { λ r. ⌜ r ≡ stateOf (labelAt (now (words .entry)) k) ⌝ }
+{
+    let label = labels::read_label(words, k);
+    candidates::state_of(label)
+}
+
+// The record of the parent's move from p to t.
+fn row_for(map: &[u8], run: Run, p: State, t: State) -> Row
+    requires { ⌜ Accepted (now map) run ⌝ }
+    requires { ⌜ InRange (junctionCount (now map)) (run .order) p ⌝ }
+    requires { ⌜ SomeMove (tripIn (now map) run) p t ⌝ }
+    ensures { λ r. ⌜ RowFor (tripIn (now (map .entry)) run) p t r ⌝ }
+{
+    let by = move_to(map, run, p, t);
+    Row {
+        kind: by.kind,
+        number: by.number,
+        clock: t.clock.0,
+    }
+}
+
+// Writes the m records of the plan, from the last label's back along the parents.
+pub fn write_moves(map: &[u8], run: Run, words: &[u32], n: usize, m: usize, sheet: &mut [u8])
+    requires { ⌜ Found (now map) run (now words) n ⌝ }
+    requires { ⌜ (m ≡ moveCount (tripIn (now map) run)) × (sheetNeeded m ≤ length (now sheet)) ⌝ }
+    ensures { λ _. ⌜ now (sheet .exit) ≡ backward (planRows (tripIn (now (map .entry)) run)) 0 (now (sheet .entry)) ⌝ }
+{
+    let mut k = n;
+    let mut left = m;
+    while 1 < k {
+        let parent = labels::parent(words, k) as usize;
+        let from = state_at(words, parent);
+        let to = state_at(words, k);
+        let row = row_for(map, run, from, to);
+        sheets::write_row(sheet, left, row);
+        left -= 1;
+        k = parent;
+    }
+}
