@@ -1,0 +1,4 @@
+pub mod Columns
+pub mod Leading
+pub mod Turning
+pub mod Climbing

@@ -1,0 +1,132 @@
+-- A turn of the loop, in the words: a candidate passed over, and a label settled. Assumes nothing.
+use mathlib.Core.Path.{_≡_, _∙_, refl, sym, ap, subst, subst₂}
+use mathlib.Core.List.{List, [], _∷_, _++_, List·Memᴰ·head, Memᴰ·append-right}
+use Prim.Native.Nat.{ℕ, _+_, _-_, _*_, _≤_, _<_}
+use native.Mathlib.Omega.{arith}
+use native.Mathlib.Nat.{le-refl}
+use lib.Dec.{T}
+use lib.ListN.{length, getD, set}
+use Rattle.roadmap.specs.Format.{junctionCount}
+use Rattle.moves.specs.declared.State.{State}
+use Rattle.moves.specs.declared.Run.{Run}
+use Rattle.moves.specs.Trip.{Trip}
+use Rattle.moves.specs.Runs.{Accepted, tripIn}
+use Rattle.moves.proofs.Rising.{SoundTrip}
+use Rattle.theory.specs.States.{Covered}
+use Rattle.journeys.specs.Journeys.{atTarget}
+use Rattle.journeys.specs.Ranked.{covers}
+use Rattle.journeys.proofs.Laws.{laws}
+use Rattle.labels.specs.declared.Label.{Label}
+use Rattle.labels.specs.Run.{stride, cursorField, at, labelAt, cursorOf}
+use Rattle.labels.specs.Lists.{Lists, LabelAdded}
+use Rattle.labels.proofs.Run.{kept-field, kept-labels, same-label}
+use Rattle.labels.proofs.Lists.{lists-same}
+use Rattle.candidates.specs.declared.Bound.{Bound}
+use Rattle.candidates.specs.Candidates.{stateOf, labelOf, statesOf, resultAt}
+use Rattle.candidates.specs.Next.{NextIs}
+use Rattle.winners.specs.Mending.{Advanced, Mended}
+use Rattle.winners.proofs.Keys.{only-labels, candidate}
+use Rattle.winners.proofs.Steps.{advanced-labels}
+use Rattle.settling.specs.Settling.{stateAt, candidateOf, Searching, Winner}
+use Rattle.settling.proofs.Pending.{covered-wider}
+use Rattle.settling.proofs.Turns.{turn-covered, settled, settled-winner, settled-covered}
+use Rattle.search.specs.Underway.{cursorsOf, parentsOf, Underway, Chosen}
+use Rattle.search.proofs.Columns.{state-is, candidate-is, cursor-next, candidate-next, advanced-states, advanced-parents, advanced-cursors, added-states, added-cursors, added-parents}
+
+-- what is next stays so with one more label
+pub next-wider : (trip : Trip) (L : List State) (c s : State) (bound : Bound) (v : ℕ) → NextIs trip L s bound v → NextIs trip (L ++ c ∷ []) s bound v
+next-wider trip L c s bound v next =
+    record {
+      names = next .names;
+      above = next .above;
+      passed = λ t m over below. covered-wider L c t (next .passed t m over below);
+    }
+
+module _ (map : List ℕ) (run : Run) {ws hs ss fs : List ℕ} {n : ℕ} (U : Underway map run ws hs ss fs n) (r : ℕ) (c : State) (won : Chosen map run ws n r c) where
+  -- the loop's candidate is c, and its label the one in the words
+  pub loop-candidate : candidateOf (tripIn map run) (statesOf ws n) (cursorsOf ws n) (r - 1) ≡ c
+  loop-candidate = candidate-is (tripIn map run) ws n r (won .low) (won .high) ∙ sym (won .is)
+
+  pub loop-state : stateAt (tripIn map run) (statesOf ws n) (r - 1) ≡ stateOf (labelAt ws r)
+  loop-state = state-is (tripIn map run) ws n r (won .low) (won .high)
+
+  -- the candidate is covered, and the label's cursor has moved on
+  pub passed-over : (ws′ : List ℕ) (v : ℕ) → Covered covers (statesOf ws n) c
+      → NextIs (tripIn map run) (statesOf ws n) (stateOf (labelAt ws r)) (Bound.Above c) v → Advanced map run ws ws′ n r v → Underway map run ws′ hs ss fs n
+  passed-over ws′ v cov next A =
+      record {
+        low = U .low;
+        lists = lists-same (advanced-labels A) (A .ready n (U .low) (le-refl n) .room) (U .lists);
+        wide = U .wide;
+        ready = A .ready;
+        tree = A .tree;
+        loop = rw (advanced-states A, advanced-parents A, advanced-cursors A (won .low) (won .high)) turned;
+      }
+    where
+      turned : Searching (tripIn map run) (statesOf ws n) (set (cursorsOf ws n) (r - 1) v) (parentsOf ws n)
+      turned =
+          turn-covered (tripIn map run) (statesOf ws n) (cursorsOf ws n) (parentsOf ws n) (U .loop) (r - 1) (won .winner) v
+          (subst (λ (z : State). Covered covers (statesOf ws n) z) (sym loop-candidate) cov)
+          (subst₂ (λ (s z : State). NextIs (tripIn map run) (statesOf ws n) s (Bound.Above z) v) (sym loop-state) (sym loop-candidate) next)
+
+  -- the candidate is not covered and not at target: it is the next label
+  module _ (sound : SoundTrip (tripIn map run)) (new : ¬ Covered covers (statesOf ws n) c) (out : ¬ T (atTarget (tripIn map run) c)) (ws₁ ws′ hs′ ss′ fs′ : List ℕ) (u : ℕ)
+      (next : NextIs (tripIn map run) (statesOf ws n) c Bound.Nothing u) (A : LabelAdded ws ws₁ hs′ ss′ fs′ n (labelOf c) r u)
+      (M : Mended map run ws₁ ws′ (n + 1)) where
+    abbrev cand : State
+    cand = candidateOf (tripIn map run) (statesOf ws n) (cursorsOf ws n) (r - 1)
+
+    loop-next : NextIs (tripIn map run) (statesOf ws n ++ cand ∷ []) cand Bound.Nothing u
+    loop-next =
+        subst (λ (z : State). NextIs (tripIn map run) (statesOf ws n ++ z ∷ []) z Bound.Nothing u) (sym loop-candidate) (next-wider (tripIn map run) (statesOf ws n) c c Bound.Nothing u next)
+
+    states : statesOf ws′ (n + 1) ≡ statesOf ws n ++ c ∷ []
+    states = added-states ws ws₁ ws′ (A .added) (M .only)
+
+    cursors : cursorsOf ws′ (n + 1) ≡ cursorsOf ws n ++ u ∷ []
+    cursors = added-cursors ws ws₁ ws′ (A .added) (M .only)
+
+    turned : Searching (tripIn map run) (statesOf ws n ++ c ∷ []) (cursorsOf ws n ++ u ∷ []) (parentsOf ws n ++ r ∷ [])
+    turned =
+        let back : r - 1 + 1 ≡ r = omega (arith, won .low) in
+        subst₂ (λ (z : State) (p : ℕ). Searching (tripIn map run) (statesOf ws n ++ z ∷ []) (cursorsOf ws n ++ u ∷ []) (parentsOf ws n ++ p ∷ [])) loop-candidate back
+        (settled (tripIn map run) sound (statesOf ws n) (cursorsOf ws n) (parentsOf ws n) (U .loop) (r - 1) (won .winner) u loop-next
+        (subst (λ (z : State). ¬ Covered covers (statesOf ws n) z) (sym loop-candidate) new)
+        (subst (λ (z : State). ¬ T (atTarget (tripIn map run) z)) (sym loop-candidate) out))
+
+    pub settles : length hs′ ≡ length hs → Underway map run ws′ hs′ ss′ fs′ (n + 1)
+    settles wide =
+        record {
+          low = omega (arith, U .low);
+          lists = lists-same (only-labels ws₁ ws′ (M .only) (n + 1)) (M .ready (n + 1) (omega arith) (le-refl (n + 1)) .room) (A .lists);
+          wide = rw wide (U .wide);
+          ready = M .ready;
+          tree = M .tree;
+          loop = rw (states, cursors, added-parents ws ws₁ ws′ (A .added) (M .only)) turned;
+        }
+
+    -- which covers it now
+    pub settled-now : Covered covers (statesOf ws′ (n + 1)) c
+    settled-now = rw states (c, Memᴰ·append-right (statesOf ws n) (List·Memᴰ·head refl), laws (tripIn map run) sound .cov-refl c)
+
+    same-cursor : cursorOf ws′ r ≡ cursorOf ws r
+    same-cursor =
+        M .only (at r cursorField) (λ e. omega arith) ∙ kept-field ws ws₁ n (A .added .kept) cursorField (omega arith) r (won .low) (won .high)
+
+    label-kept : labelAt ws′ r ≡ labelAt ws r
+    label-kept =
+        same-label ws₁ ws′ (n + 1) (only-labels ws₁ ws′ (M .only) (n + 1)) r (won .low) (omega (arith, won .high))
+        ∙ same-label ws ws₁ n (kept-labels ws ws₁ n (A .added .kept)) r (won .low) (won .high)
+
+    -- and its parent's candidate is the lowest still
+    pub still-chosen : Chosen map run ws′ (n + 1) r c
+    still-chosen =
+        record {
+          low = won .low;
+          high = omega (arith, won .high);
+          has = rw same-cursor (won .has);
+          is = subst₂ (λ (l : Label) (k : ℕ). c ≡ resultAt (tripIn map run) (stateOf l) k) (sym label-kept) (sym same-cursor) (won .is);
+          winner = rw (states, cursors)
+              (subst (λ (z : State). Winner (tripIn map run) (statesOf ws n ++ z ∷ []) (cursorsOf ws n ++ u ∷ []) (r - 1)) loop-candidate
+              (settled-winner (tripIn map run) sound (statesOf ws n) (cursorsOf ws n) (parentsOf ws n) (U .loop) (r - 1) (won .winner) u loop-next));
+        }

@@ -1,0 +1,39 @@
+// The search: settles labels in rank order until one is at the target, none is left, or the space is full.
+ghost use Prim.Native.Nat.{_+_, _*_, _<_, _≤_};
+ghost use lib.Dec.{T};
+ghost use lib.ListN.{length};
+ghost use Rattle.moves.specs.Runs.{Accepted, tripIn};
+ghost use Rattle.theory.specs.States.{Covered};
+ghost use Rattle.journeys.specs.Journeys.{atTarget};
+ghost use Rattle.journeys.specs.Ranked.{covers};
+ghost use Rattle.labels.specs.Run.{stride};
+ghost use Rattle.candidates.specs.Candidates.{statesOf};
+ghost use Rattle.winners.specs.Keys.{keyAt};
+ghost use Rattle.search.specs.Underway.{Underway, Chosen, Onward};
+use candidates::Bound;
+use moves::Run;
+use moves::State;
+
+// Label w's candidate is covered: the label's cursor moves on to its next.
+fn pass_over(
+    map: &[u8],
+    run: Run,
+    words: &mut [u32],
+    heads: &[u32],
+    spells: &[u32],
+    shifts: &[u32],
+    n: usize,
+    w: usize,
+    candidate: State,
+)
+    requires { ⌜ Accepted (now map) run ⌝ }
+    requires { ⌜ Underway (now map) run (now words) (now heads) (now spells) (now shifts) n ⌝ }
+    requires { ⌜ Chosen (now map) run (now words) n w candidate ⌝ }
+    requires { ⌜ Covered covers (statesOf (now words) n) candidate ⌝ }
+    ensures { λ _. ⌜ Onward (now (map .entry)) run (keyAt (tripIn (now (map .entry)) run) (now (words .entry)) w) (now (words .exit)) (now (heads .entry)) (now (spells .entry)) (now (shifts .entry)) n ⌝ }
+{
+    let state = candidates::state_of(labels::read_label(words, w));
+    let bound = Bound::Above(candidate);
+    let next = candidates::next_candidate(map, run, words, heads, spells, shifts, n, state, bound);
+    winners::advance(map, run, words, n, w, next);
+}
