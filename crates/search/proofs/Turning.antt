@@ -4,34 +4,40 @@ use mathlib.Core.List.{List, [], _∷_, _++_, List·Memᴰ·head, Memᴰ·append
 use Prim.Native.Nat.{ℕ, _+_, _-_, _*_, _≤_, _<_}
 use native.Mathlib.Omega.{arith}
 use native.Mathlib.Nat.{le-refl}
+use native.Mathlib.Decide.{decLe}
 use lib.Dec.{T}
 use lib.ListN.{length, getD, set}
 use Rattle.roadmap.specs.Format.{junctionCount}
 use Rattle.moves.specs.declared.State.{State}
 use Rattle.moves.specs.declared.Run.{Run}
 use Rattle.moves.specs.Trip.{Trip}
-use Rattle.moves.specs.Runs.{Accepted, tripIn}
-use Rattle.moves.proofs.Rising.{SoundTrip}
+use Rattle.moves.specs.Runs.{Accepted, InRange, tripIn}
+use Rattle.moves.proofs.Rising.{SoundTrip, sound-trip}
 use Rattle.theory.specs.States.{Covered}
 use Rattle.journeys.specs.Journeys.{atTarget}
 use Rattle.journeys.specs.Ranked.{covers}
 use Rattle.journeys.proofs.Laws.{laws}
 use Rattle.labels.specs.declared.Label.{Label}
-use Rattle.labels.specs.Run.{stride, cursorField, at, labelAt, cursorOf}
+use Rattle.labels.specs.Run.{stride, cursorField, at, labelAt, cursorOf, winnerOf}
 use Rattle.labels.specs.Lists.{Lists, LabelAdded}
 use Rattle.labels.proofs.Run.{kept-field, kept-labels, same-label}
 use Rattle.labels.proofs.Lists.{lists-same}
 use Rattle.candidates.specs.declared.Bound.{Bound}
-use Rattle.candidates.specs.Candidates.{stateOf, labelOf, statesOf, resultAt}
+use Rattle.candidates.specs.Candidates.{stateOf, labelOf, statesOf, resultAt, Cursor}
 use Rattle.candidates.specs.Next.{NextIs}
+use Rattle.winners.specs.Keys.{keyAt, Sound, Ready}
 use Rattle.winners.specs.Mending.{Advanced, Mended}
-use Rattle.winners.proofs.Keys.{only-labels, candidate}
-use Rattle.winners.proofs.Steps.{advanced-labels}
+use Rattle.winners.proofs.Keys.{result-range, only-labels, key-kept}
+use Rattle.winners.proofs.Steps.{advanced-labels, key-added}
 use Rattle.settling.specs.Settling.{stateAt, candidateOf, Searching, Winner}
 use Rattle.settling.proofs.Pending.{covered-wider}
 use Rattle.settling.proofs.Turns.{turn-covered, settled, settled-winner, settled-covered}
-use Rattle.search.specs.Underway.{cursorsOf, parentsOf, Underway, Chosen}
+use Rattle.search.specs.Underway.{cursorsOf, parentsOf, Underway, Chosen, Onward}
 use Rattle.search.proofs.Columns.{state-is, candidate-is, cursor-next, candidate-next, advanced-states, advanced-parents, advanced-cursors, added-states, added-cursors, added-parents}
+
+-- an accepted map and order make a sound trip
+pub run-sound : (map : List ℕ) (run : Run) → Accepted map run → SoundTrip (tripIn map run)
+run-sound map run ok = sound-trip map (run .order) (ok .mapped) (ok .ordered)
 
 -- what is next stays so with one more label
 pub next-wider : (trip : Trip) (L : List State) (c s : State) (bound : Bound) (v : ℕ) → NextIs trip L s bound v → NextIs trip (L ++ c ∷ []) s bound v
@@ -41,6 +47,14 @@ next-wider trip L c s bound v next =
       above = next .above;
       passed = λ t m over below. covered-wider L c t (next .passed t m over below);
     }
+
+-- the key below which the search is, told otherwise
+pub onward-as : {map : List ℕ} {run : Run} {k k′ : ℕ} {ws hs ss fs : List ℕ} {n : ℕ} → k ≡ k′ → Onward map run k ws hs ss fs n → Onward map run k′ ws hs ss fs n
+onward-as {map} {run} {ws = ws} e O = record { underway = O .underway; higher = subst (λ (k : ℕ). k < keyAt (tripIn map run) ws (winnerOf ws 1)) e (O .higher) }
+
+-- the label that came in, told otherwise
+pub added-as : {ws ws₁ hs ss fs : List ℕ} {n r u : ℕ} {l m : Label} → l ≡ m → LabelAdded ws ws₁ hs ss fs n l r u → LabelAdded ws ws₁ hs ss fs n m r u
+added-as {ws} {ws₁} {hs} {ss} {fs} {n} {r} {u} e A = subst (λ (l : Label). LabelAdded ws ws₁ hs ss fs n l r u) e A
 
 module _ (map : List ℕ) (run : Run) {ws hs ss fs : List ℕ} {n : ℕ} (U : Underway map run ws hs ss fs n) (r : ℕ) (c : State) (won : Chosen map run ws n r c) where
   -- the loop's candidate is c, and its label the one in the words
@@ -130,3 +144,41 @@ module _ (map : List ℕ) (run : Run) {ws hs ss fs : List ℕ} {n : ℕ} (U : Un
               (subst (λ (z : State). Winner (tripIn map run) (statesOf ws n ++ z ∷ []) (cursorsOf ws n ++ u ∷ []) (r - 1)) loop-candidate
               (settled-winner (tripIn map run) sound (statesOf ws n) (cursorsOf ws n) (parentsOf ws n) (U .loop) (r - 1) (won .winner) u loop-next));
         }
+
+    -- its parent's key is as it was
+    pub key-same : keyAt (tripIn map run) ws′ r ≡ keyAt (tripIn map run) ws r
+    key-same = key-kept ws₁ ws′ (M .only) (tripIn map run) r ∙ key-added (A .added) (tripIn map run) r (won .high)
+
+  -- a candidate is in range
+  pub chosen-range : Accepted map run → InRange (junctionCount map) (run .order) c
+  chosen-range ok =
+      let S = U .ready r (won .low) (won .high) in
+      subst (InRange (junctionCount map) (run .order)) (sym (won .is)) (result-range map run ok (stateOf (labelAt ws r)) (cursorOf ws r) (S .range) (S .cursor (won .has)))
+
+  -- once the label is in, all labels are sound
+  pub ready-now : Accepted map run → (ws₁ hs′ ss′ fs′ : List ℕ) (u : ℕ) → n + 1 < 4294967296 → NextIs (tripIn map run) (statesOf ws n) c Bound.Nothing u
+      → LabelAdded ws ws₁ hs′ ss′ fs′ n (labelOf c) r u → Ready map run ws₁ (n + 1)
+  ready-now ok ws₁ hs′ ss′ fs′ u few next A m low high = go (decLe m n)
+    where
+      room : stride * (n + 1) ≤ length ws₁
+      room = A .lists .room
+
+      go : Dec (m ≤ n) → Sound map run ws₁ m
+      go (yes h) =
+          let S = U .ready m low h in
+          let same = same-label ws ws₁ n (kept-labels ws ws₁ n (A .added .kept)) m low h in
+          let cursor-same = kept-field ws ws₁ n (A .added .kept) cursorField (omega arith) m low h in
+          record {
+            room = omega (arith, room);
+            small = S .small;
+            range = subst (λ (l : Label). InRange (junctionCount map) (run .order) (stateOf l)) (sym same) (S .range);
+            cursor = subst₂ (λ (l : Label) (x : ℕ). Cursor (tripIn map run) (stateOf l) x) (sym same) (sym cursor-same) (S .cursor);
+          }
+      go (no h) =
+          let e : m ≡ n + 1 = omega arith in
+          subst (Sound map run ws₁) (sym e) (record {
+            room = room;
+            small = few;
+            range = subst (λ (l : Label). InRange (junctionCount map) (run .order) (stateOf l)) (sym (A .added .is-label)) (chosen-range ok);
+            cursor = subst₂ (λ (l : Label) (x : ℕ). Cursor (tripIn map run) (stateOf l) x) (sym (A .added .is-label)) (sym (A .added .is-cursor)) (next .names);
+          })

@@ -37,3 +37,39 @@ fn pass_over(
     let next = candidates::next_candidate(map, run, words, heads, spells, shifts, n, state, bound);
     winners::advance(map, run, words, n, w, next);
 }
+
+// Label w's candidate is covered by none and not at target: it is label n + 1, and w is its parent.
+fn settle_label(
+    map: &[u8],
+    run: Run,
+    words: &mut [u32],
+    heads: &mut [u32],
+    spells: &mut [u32],
+    shifts: &mut [u32],
+    n: usize,
+    w: usize,
+    candidate: State,
+)
+    requires { ⌜ Accepted (now map) run ⌝ }
+    requires { ⌜ Underway (now map) run (now words) (now heads) (now spells) (now shifts) n ⌝ }
+    requires { ⌜ Chosen (now map) run (now words) n w candidate ⌝ }
+    requires { ⌜ (Covered covers (statesOf (now words) n) candidate → ⊥) × (T (atTarget (tripIn (now map) run) candidate) → ⊥) ⌝ }
+    requires { ⌜ (n + 1 < 4294967296) × (stride * (n + 1) ≤ length (now words)) ⌝ }
+    ensures { λ _. ⌜ Onward (now (map .entry)) run (keyAt (tripIn (now (map .entry)) run) (now (words .entry)) w) (now (words .exit)) (now (heads .exit)) (now (spells .exit)) (now (shifts .exit)) (n + 1) ⌝ }
+{
+    let next = candidates::next_candidate(
+        map,
+        run,
+        words,
+        heads,
+        spells,
+        shifts,
+        n,
+        candidate,
+        Bound::Nothing,
+    );
+    let label = candidates::label_of(candidate);
+    labels::add_label(words, heads, spells, shifts, n, label, w as u32, next);
+    winners::enter(map, run, words, n);
+    pass_over(map, run, words, heads, spells, shifts, n + 1, w, candidate);
+}
