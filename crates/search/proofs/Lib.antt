@@ -2,3 +2,4 @@ pub mod Columns
 pub mod Leading
 pub mod Turning
 pub mod Climbing
+pub mod Stopping
