@@ -1,4 +1,5 @@
 // The search: settles labels in rank order until one is at the target, none is left, or the space is full.
+ghost use mathlib.Core.Path.{_≡_};
 ghost use Prim.Native.Nat.{_+_, _*_, _<_, _≤_};
 ghost use lib.Dec.{T};
 ghost use lib.ListN.{length};
@@ -6,13 +7,24 @@ ghost use Rattle.moves.specs.Runs.{Accepted, tripIn};
 ghost use Rattle.theory.specs.States.{Covered};
 ghost use Rattle.journeys.specs.Journeys.{atTarget};
 ghost use Rattle.journeys.specs.Ranked.{covers};
-ghost use Rattle.labels.specs.Run.{stride};
-ghost use Rattle.candidates.specs.Candidates.{statesOf};
-ghost use Rattle.winners.specs.Keys.{keyAt};
+ghost use Rattle.labels.specs.Run.{stride, labelAt, cursorOf};
+ghost use Rattle.candidates.specs.Candidates.{stateOf, statesOf, resultAt};
+ghost use Rattle.winners.specs.Keys.{keyAt, Sound};
 ghost use Rattle.search.specs.Underway.{Underway, Chosen, Onward};
 use candidates::Bound;
 use moves::Run;
 use moves::State;
+
+// The candidate of label w.
+fn candidate_at(map: &[u8], run: Run, words: &[u32], w: usize) -> State
+    requires { ⌜ Accepted (now map) run ⌝ }
+    requires { ⌜ (1 ≤ w) × Sound (now map) run (now words) w × (1 ≤ cursorOf (now words) w) ⌝ }
+    ensures { λ r. ⌜ r ≡ resultAt (tripIn (now (map .entry)) run) (stateOf (labelAt (now (words .entry)) w)) (cursorOf (now (words .entry)) w) ⌝ }
+{
+    let state = candidates::state_of(labels::read_label(words, w));
+    let cursor = labels::cursor(words, w);
+    candidates::result_at(map, run, state, cursor)
+}
 
 // Label w's candidate is covered: the label's cursor moves on to its next.
 fn pass_over(
