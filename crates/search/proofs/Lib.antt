@@ -3,3 +3,4 @@ pub mod Leading
 pub mod Turning
 pub mod Climbing
 pub mod Stopping
+pub mod Offering

@@ -7,13 +7,24 @@ ghost use Rattle.moves.specs.Runs.{Accepted, tripIn};
 ghost use Rattle.theory.specs.States.{Covered};
 ghost use Rattle.journeys.specs.Journeys.{atTarget};
 ghost use Rattle.journeys.specs.Ranked.{covers};
-ghost use Rattle.labels.specs.Run.{stride, labelAt, cursorOf};
-ghost use Rattle.candidates.specs.Candidates.{stateOf, statesOf, resultAt};
+ghost use Rattle.labels.specs.Run.{stride, labelAt, cursorOf, winnerOf};
+ghost use Rattle.labels.specs.Lists.{Lists, LabelAdded};
+ghost use Rattle.candidates.specs.Candidates.{stateOf, labelOf, statesOf, resultAt};
 ghost use Rattle.winners.specs.Keys.{keyAt, Sound};
+ghost use Rattle.winners.specs.Mending.{Leads};
 ghost use Rattle.search.specs.Underway.{Underway, Chosen, Onward};
+ghost use Rattle.search.specs.Turns.{TurnSays};
 use candidates::Bound;
 use moves::Run;
 use moves::State;
+
+// What a turn of the loop comes to: the search goes on with so many labels, or ends.
+pub enum Turn {
+    Goes(usize),
+    Found,
+    Exhausted,
+    Full,
+}
 
 // The candidate of label w.
 fn candidate_at(map: &[u8], run: Run, words: &[u32], w: usize) -> State
@@ -84,4 +95,106 @@ fn settle_label(
     labels::add_label(words, heads, spells, shifts, n, label, w as u32, next);
     winners::enter(map, run, words, n);
     pass_over(map, run, words, heads, spells, shifts, n + 1, w, candidate);
+}
+
+// Label w's candidate is at target, and covered by none: it is the answer, and the last label.
+fn settle_last(
+    words: &mut [u32],
+    heads: &mut [u32],
+    spells: &mut [u32],
+    shifts: &mut [u32],
+    n: usize,
+    w: usize,
+    candidate: State,
+)
+    requires { ⌜ Lists (now words) (now heads) (now spells) (now shifts) n × (candidate .junction < length (now heads)) ⌝ }
+    requires { ⌜ (n + 1 < 4294967296) × (stride * (n + 1) ≤ length (now words)) × (w ≤ n) ⌝ }
+    ensures { λ _. ⌜ LabelAdded (now (words .entry)) (now (words .exit)) (now (heads .exit)) (now (spells .exit)) (now (shifts .exit)) n (labelOf candidate) w 0 ⌝ }
+{
+    let label = candidates::label_of(candidate);
+    labels::add_label(words, heads, spells, shifts, n, label, w as u32, 0);
+}
+
+// Label w's candidate is covered by none: it is the next label, if one more fits.
+fn settle(
+    map: &[u8],
+    run: Run,
+    words: &mut [u32],
+    heads: &mut [u32],
+    spells: &mut [u32],
+    shifts: &mut [u32],
+    fit: usize,
+    n: usize,
+    w: usize,
+    candidate: State,
+) -> Turn
+    requires { ⌜ Accepted (now map) run ⌝ }
+    requires { ⌜ Underway (now map) run (now words) (now heads) (now spells) (now shifts) n ⌝ }
+    requires { ⌜ Chosen (now map) run (now words) n w candidate ⌝ }
+    requires { ⌜ (Covered covers (statesOf (now words) n) candidate → ⊥) ⌝ }
+    requires { ⌜ (n ≤ fit) × (fit ≤ 1000000) × (stride * fit ≤ length (now words)) ⌝ }
+    ensures { λ r. ⌜ TurnSays (now (map .entry)) run fit (keyAt (tripIn (now (map .entry)) run) (now (words .entry)) w) n (now (words .exit)) (now (heads .exit)) (now (spells .exit)) (now (shifts .exit)) r ⌝ }
+{
+    if n == fit {
+        return Turn::Full;
+    }
+    if candidate.junction == run.order.target {
+        settle_last(words, heads, spells, shifts, n, w, candidate);
+        return Turn::Found;
+    }
+    settle_label(map, run, words, heads, spells, shifts, n, w, candidate);
+    Turn::Goes(n + 1)
+}
+
+// Label w's candidate is the lowest: it is passed over if a label covers it, else settled.
+fn offer(
+    map: &[u8],
+    run: Run,
+    words: &mut [u32],
+    heads: &mut [u32],
+    spells: &mut [u32],
+    shifts: &mut [u32],
+    fit: usize,
+    n: usize,
+    w: usize,
+) -> Turn
+    requires { ⌜ Accepted (now map) run ⌝ }
+    requires { ⌜ Underway (now map) run (now words) (now heads) (now spells) (now shifts) n ⌝ }
+    requires { ⌜ (1 ≤ w) × Leads (tripIn (now map) run) (now words) n w × (1 ≤ cursorOf (now words) w) ⌝ }
+    requires { ⌜ (n ≤ fit) × (fit ≤ 1000000) × (stride * fit ≤ length (now words)) ⌝ }
+    ensures { λ r. ⌜ TurnSays (now (map .entry)) run fit (keyAt (tripIn (now (map .entry)) run) (now (words .entry)) w) n (now (words .exit)) (now (heads .exit)) (now (spells .exit)) (now (shifts .exit)) r ⌝ }
+{
+    let candidate = candidate_at(map, run, words, w);
+    let label = candidates::label_of(candidate);
+    if labels::covered(words, heads, spells, shifts, n, label) {
+        pass_over(map, run, words, heads, spells, shifts, n, w, candidate);
+        return Turn::Goes(n);
+    }
+    settle(map, run, words, heads, spells, shifts, fit, n, w, candidate)
+}
+
+// One turn of the loop: the label with the lowest candidate, if one has any, offers it.
+fn take_turn(
+    map: &[u8],
+    run: Run,
+    words: &mut [u32],
+    heads: &mut [u32],
+    spells: &mut [u32],
+    shifts: &mut [u32],
+    fit: usize,
+    n: usize,
+) -> Turn
+    requires { ⌜ Accepted (now map) run ⌝ }
+    requires { ⌜ Underway (now map) run (now words) (now heads) (now spells) (now shifts) n ⌝ }
+    requires { ⌜ (n ≤ fit) × (fit ≤ 1000000) × (stride * fit ≤ length (now words)) ⌝ }
+    ensures { λ r. ⌜ TurnSays (now (map .entry)) run fit (keyAt (tripIn (now (map .entry)) run) (now (words .entry)) (winnerOf (now (words .entry)) 1)) n (now (words .exit)) (now (heads .exit)) (now (spells .exit)) (now (shifts .exit)) r ⌝ }
+{
+    let w = winners::leading(words, n);
+    if w == 0 {
+        return Turn::Exhausted;
+    }
+    if labels::cursor(words, w) == 0 {
+        return Turn::Exhausted;
+    }
+    offer(map, run, words, heads, spells, shifts, fit, n, w)
 }

@@ -1,0 +1,96 @@
+use mathlib.Core.Path.{_≡_, _∙_, sym, subst}
+use Prim.Native.Nat.{_<_}
+use native.Mathlib.Omega.{arith}
+use lib.ListN.{length}
+use borrow.Author.Needs.{needs}
+use Rattle.labels.specs.declared.Label.{Label}
+use Rattle.labels.specs.Run.{settled}
+use Rattle.labels.specs.Lists.{Says, Covered}
+use Rattle.candidates.proofs.Trials.{covered-state}
+use Rattle.search.specs.Turns.{goes}
+use Rattle.search.proofs.Turning.{chosen-range}
+use Rattle.search.proofs.Stopping.{state-covered}
+use Rattle.search.proofs.Offering.{leader-chosen}
+use Rattle.search.proofs.offer.Statement.{statement}
+use Rattle.search.proofs.offer.Tie as tie
+
+candidate-at-requires : tie.Need-candidate-at-requires
+candidate-at-requires c κs =
+    let s = c .before .before .before .before .before .before in
+    let lead = s .pre .1 .1 .0 in
+    (s .pre .0, (lead .0, s .pre .1 .0 .ready _ (lead .0) (lead .1 .within), lead .2))
+
+covered-requires : tie.Need-covered-requires
+covered-requires c κs =
+    let s = c .before .before .before .before .before .before .before .before .before .before .before .before in
+    let a = s .args in
+    let U = s .pre .1 .0 in
+    let lead = s .pre .1 .1 .0 in
+    let candidate = c .before .before .before .before .before .candidate-at .result in
+    let won = leader-chosen (a .map .now) (a .run) (s .pre .0) U (a .w) candidate (lead .0) (lead .1) (lead .2) (c .before .before .before .before .before .candidate-at .ensures) in
+    let range = chosen-range (a .map .now) (a .run) U (a .w) candidate won (s .pre .0) in
+    let here : candidate .junction < length (a .heads .now) = omega (arith, range .high, U .wide) in
+    (U .lists, subst (λ (l : Label). l .junction < length (a .heads .now)) (sym (c .before .before .before .before .label-of .ensures)) here)
+
+pass-over-requires : tie.Need-pass-over-requires
+pass-over-requires c κs =
+    let s = c .before .before .before .before .before .before .before .before .before .before .before .before .before .before .before .before .before .before in
+    let a = s .args in
+    let lead = s .pre .1 .1 .0 in
+    let candidate = c .before .before .before .before .before .before .before .before .before .before .before .candidate-at .result in
+    let says = subst (Says _) (c .before .before .before .before .if1 .taken) (c .before .before .before .before .before .covered .ensures) in (
+      s .pre .0,
+      (
+        s .pre .1 .0,
+        (
+          leader-chosen (a .map .now) (a .run) (s .pre .0) (s .pre .1 .0) (a .w) candidate (lead .0) (lead .1) (lead .2) (c .before .before .before .before .before .before .before .before .before .before .before .candidate-at .ensures),
+          covered-state (a .words .now) (a .n) candidate (subst (λ (l : Label). Covered (settled (a .words .now) (a .n)) l) (c .before .before .before .before .before .before .before .before .before .before .label-of .ensures) says),
+        ),
+      ),
+    )
+
+returns : tie.Need-returns
+returns c = let s = c .before .before .before .before .before .before .before .before .before .before .before .before .before .before .before .before .before .before .before .before .before in goes (c .before .before .pass-over .ensures) (s .pre .1 .1 .1 .0)
+
+settle-requires : tie.Need-settle-requires
+settle-requires c κs =
+    let s = c .before .before .before .before .before .before .before .before .before .before .before .before .before .before .before .before .before .before in
+    let a = s .args in
+    let lead = s .pre .1 .1 .0 in
+    let candidate = c .before .before .before .before .before .before .before .before .before .before .before .candidate-at .result in
+    let says = subst (Says _) (c .before .before .before .before .if1 .left) (c .before .before .before .before .before .covered .ensures) in (
+      s .pre .0,
+      (
+        s .pre .1 .0,
+        (
+          leader-chosen (a .map .now) (a .run) (s .pre .0) (s .pre .1 .0) (a .w) candidate (lead .0) (lead .1) (lead .2) (c .before .before .before .before .before .before .before .before .before .before .before .candidate-at .ensures),
+          (
+            λ over. says (subst (λ (l : Label). Covered (settled (a .words .now) (a .n)) l) (sym (c .before .before .before .before .before .before .before .before .before .before .label-of .ensures)) (state-covered (a .words .now) (a .n) candidate over)),
+            s .pre .1 .1 .1,
+          ),
+        ),
+      ),
+    )
+
+returns-2 : tie.Need-returns-2
+returns-2 c = c .before .before .before .before .before .before .before .before .settle .ensures
+
+pub offer-spec : {M : Type 1} → statement M
+offer-spec =
+    tie.close
+    (tie.spec
+    candidate-at-requires
+    (λ c κs. search needs)
+    covered-requires
+    pass-over-requires
+    (λ c. search needs)
+    (λ c. search needs)
+    (λ c. search needs)
+    (λ c. search needs)
+    returns
+    settle-requires
+    (λ c. search needs)
+    (λ c. search needs)
+    (λ c. search needs)
+    (λ c. search needs)
+    returns-2)

@@ -1,0 +1,85 @@
+use mathlib.Core.Path.{_≡_}
+use Prim.Native.Nat.{_+_, _*_, _<_, _≤_}
+use native.Mathlib.Omega.{arith}
+use lib.ListN.{length}
+use borrow.Author.Needs.{needs}
+use Rattle.labels.specs.Run.{stride}
+use Rattle.search.specs.Turns.{goes, found, full}
+use Rattle.search.proofs.Turning.{chosen-range}
+use Rattle.search.proofs.Stopping.{more-labels}
+use Rattle.search.proofs.Offering.{not-home, reaches}
+use Rattle.search.proofs.settle.Statement.{statement}
+use Rattle.search.proofs.settle.Tie as tie
+
+returns : tie.Need-returns
+returns c =
+    let s = c .before .before .before .before .before .before in
+    let a = s .args in
+    let last : a .n ≡ a .fit = c .if1 .taken in
+    full (omega (arith, last, more-labels (a .map .now) (a .run) (s .pre .0) (s .pre .1 .0) (a .w) (a .candidate) (s .pre .1 .1 .0) (s .pre .1 .1 .1 .0)))
+
+settle-last-requires : tie.Need-settle-last-requires
+settle-last-requires c κs =
+    let s = c .before .before .before .before .before .before .before .before .before .before .before .before .before in
+    let a = s .args in
+    let U = s .pre .1 .0 in
+    let won = s .pre .1 .1 .0 in
+    let room = s .pre .1 .1 .1 .1 in
+    let short : (a .n ≡ a .fit → ⊥) = c .before .before .before .before .before .before .before .if1 .left in
+    let more : a .n + 1 ≤ a .fit = omega (arith, short, room .0) in
+    let range = chosen-range (a .map .now) (a .run) U (a .w) (a .candidate) won (s .pre .0) in (
+      (U .lists, omega (arith, range .high, U .wide)),
+      (omega (arith, more, room .1), omega (arith, more, room .2), won .high),
+    )
+
+returns-2 : tie.Need-returns-2
+returns-2 c =
+    let s = c .before .before .before .before .before .before .before .before .before .before .before .before .before .before .before .before .before .before .before .before .before .before in
+    let a = s .args in
+    let room = s .pre .1 .1 .1 .1 in
+    let short : (a .n ≡ a .fit → ⊥) = c .before .before .before .before .before .before .before .before .before .before .before .before .before .before .before .before .if1 .left in
+    let home : a .candidate .junction ≡ a .run .order .target = c .before .before .before .before .before .before .before .before .before .before .before .before .before .if2 .taken in
+    found
+    (reaches (a .map .now) (a .run) (s .pre .0) (s .pre .1 .0) (a .w) (a .candidate) (s .pre .1 .1 .0) (s .pre .1 .1 .1 .0) home (c .before .before .before .before .before .before .before .before .settle-last .ensures))
+    (omega (arith, short, room .0))
+
+settle-label-requires : tie.Need-settle-label-requires
+settle-label-requires c κs =
+    let s = c .before .before .before .before .before .before .before .before .before .before .before .before .before in
+    let a = s .args in
+    let room = s .pre .1 .1 .1 .1 in
+    let short : (a .n ≡ a .fit → ⊥) = c .before .before .before .before .before .before .before .if1 .left in
+    let more : a .n + 1 ≤ a .fit = omega (arith, short, room .0) in
+    let out : (a .candidate .junction ≡ a .run .order .target → ⊥) = c .before .before .before .before .if2 .left in (
+      s .pre .0,
+      (s .pre .1 .0, (s .pre .1 .1 .0, ((s .pre .1 .1 .1 .0, not-home (a .map .now) (a .run) (a .candidate) out), (omega (arith, more, room .1), omega (arith, more, room .2))))),
+    )
+
+add-t30 : tie.Need-add-t30
+add-t30 c = let s = c .before .before .before .before .before .before .before .before .before .before .before .before .before .before .before .before .before .before .before .before .before .before in let room = s .pre .1 .1 .1 .1 in omega (arith, room .0, room .1)
+
+returns-3 : tie.Need-returns-3
+returns-3 c =
+    let s = c .before .before .before .before .before .before .before .before .before .before .before .before .before .before .before .before .before .before .before .before .before .before in
+    let a = s .args in
+    let short : (a .n ≡ a .fit → ⊥) = c .before .before .before .before .before .before .before .before .before .before .before .before .before .before .before .before .if1 .left in
+    goes (c .before .before .before .before .before .before .before .before .settle-label .ensures) (omega (arith, short, s .pre .1 .1 .1 .1 .0))
+
+pub settle-spec : {M : Type 1} → statement M
+settle-spec =
+    tie.close
+    (tie.spec
+    returns
+    settle-last-requires
+    (λ c. search needs)
+    (λ c. search needs)
+    (λ c. search needs)
+    (λ c. search needs)
+    returns-2
+    settle-label-requires
+    add-t30
+    (λ c. search needs)
+    (λ c. search needs)
+    (λ c. search needs)
+    (λ c. search needs)
+    returns-3)

@@ -1,0 +1,75 @@
+use mathlib.Core.Path.{_≡_, _∙_, sym, subst}
+use Prim.Native.Nat.{ℕ, _≤_, _<_}
+use native.Mathlib.Omega.{arith}
+use borrow.Author.Needs.{needs}
+use Rattle.moves.specs.Runs.{tripIn}
+use Rattle.labels.specs.Run.{cursorOf}
+use Rattle.winners.specs.Mending.{Leads}
+use Rattle.search.specs.Turns.{exhausted}
+use Rattle.search.proofs.Offering.{leader-none, leader-shut, root-least, says-below}
+use Rattle.search.proofs.take_turn.Statement.{statement}
+use Rattle.search.proofs.take_turn.Tie as tie
+
+returns : tie.Need-returns
+returns c =
+    let s = c .before .before .before .before .before .before .before .before in
+    let a = s .args in
+    let U = s .pre .1 .0 in
+    let none : c .before .leading .result ≡ 0 = c .if1 .taken in
+    let lead = c .before .leading .ensures (tripIn (a .map .now) (a .run)) (U .tree) in
+    exhausted (leader-none (a .map .now) (a .run) (s .pre .0) U (subst (Leads (tripIn (a .map .now) (a .run)) (a .words .now) (a .n)) none lead))
+
+cursor-requires : tie.Need-cursor-requires
+cursor-requires c κs =
+    let s = c .before .before .before .before .before .before .before .before .before in
+    let a = s .args in
+    let U = s .pre .1 .0 in
+    let some : (c .before .before .leading .result ≡ 0 → ⊥) = c .before .if1 .left in
+    let low : 1 ≤ c .before .before .leading .result = omega (arith, some) in
+    let lead = c .before .before .leading .ensures (tripIn (a .map .now) (a .run)) (U .tree) in
+    (low, U .ready _ low (lead .within) .room)
+
+returns-2 : tie.Need-returns-2
+returns-2 c =
+    let s = c .before .before .before .before .before .before .before .before .before .before .before in
+    let a = s .args in
+    let U = s .pre .1 .0 in
+    let lead = c .before .before .before .before .leading .ensures (tripIn (a .map .now) (a .run)) (U .tree) in
+    exhausted (leader-shut (a .map .now) (a .run) (s .pre .0) U _ lead (sym (c .before .cursor .ensures) ∙ c .if2 .taken))
+
+offer-requires : tie.Need-offer-requires
+offer-requires c κs =
+    let s = c .before .before .before .before .before .before .before .before .before .before .before .before .before .before .before in
+    let a = s .args in
+    let U = s .pre .1 .0 in
+    let some : (c .before .before .before .before .before .before .before .before .leading .result ≡ 0 → ⊥) = c .before .before .before .before .before .before .before .if1 .left in
+    let lead = c .before .before .before .before .before .before .before .before .leading .ensures (tripIn (a .map .now) (a .run)) (U .tree) in
+    let live : (c .before .before .before .before .before .cursor .result ≡ 0 → ⊥) = c .before .before .before .before .if2 .left in
+    let is : c .before .before .before .before .before .cursor .result ≡ cursorOf (a .words .now) (c .before .before .before .before .before .before .before .before .leading .result) = c .before .before .before .before .before .cursor .ensures in
+    (s .pre .0, (U, ((omega (arith, some), lead, omega (arith, live, is)), s .pre .1 .1)))
+
+returns-3 : tie.Need-returns-3
+returns-3 c =
+    let s = c .before .before .before .before .before .before .before .before .before .before .before .before .before .before .before .before .before .before .before .before .before .before .before .before in
+    let a = s .args in
+    let U = s .pre .1 .0 in
+    let some : (c .before .before .before .before .before .before .before .before .before .before .before .before .before .before .before .before .before .leading .result ≡ 0 → ⊥) = c .before .before .before .before .before .before .before .before .before .before .before .before .before .before .before .before .if1 .left in
+    let lead = c .before .before .before .before .before .before .before .before .before .before .before .before .before .before .before .before .before .leading .ensures (tripIn (a .map .now) (a .run)) (U .tree) in
+    says-below (root-least (a .map .now) (a .run) (s .pre .0) U _ (omega (arith, some)) (lead .within)) (c .before .before .before .before .before .before .before .before .offer .ensures)
+
+pub take-turn-spec : {M : Type 1} → statement M
+take-turn-spec =
+    tie.close
+    (tie.spec
+    (λ c κs. search needs)
+    (λ c. search needs)
+    returns
+    cursor-requires
+    (λ c. search needs)
+    returns-2
+    offer-requires
+    (λ c. search needs)
+    (λ c. search needs)
+    (λ c. search needs)
+    (λ c. search needs)
+    returns-3)
