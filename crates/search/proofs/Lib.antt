@@ -4,3 +4,4 @@ pub mod Turning
 pub mod Climbing
 pub mod Stopping
 pub mod Offering
+pub mod Rounds

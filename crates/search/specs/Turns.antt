@@ -11,6 +11,7 @@ use Rattle.labels.specs.Run.{stride}
 use Rattle.candidates.specs.Candidates.{statesOf}
 use Rattle.settling.specs.Settling.{Ended}
 use Rattle.search.specs.declared.Turn.{Turn}
+use Rattle.search.specs.declared.Outcome.{Outcome}
 use Rattle.search.specs.Underway.{parentsOf, Onward}
 
 -- labels 1 to n stand in the words, and are all: there is no journey
@@ -29,3 +30,9 @@ pub data TurnSays (map : List ℕ) (run : Run) (fit key n : ℕ) (ws hs ss fs : 
   found : EndsFound map run ws (n + 1) → n + 1 ≤ fit → TurnSays map run fit key n ws hs ss fs Turn.Found
   exhausted : EndsWithout map run ws n → TurnSays map run fit key n ws hs ss fs Turn.Exhausted
   full : fit < labelCount (tripIn map run) → TurnSays map run fit key n ws hs ss fs Turn.Full
+
+-- where so many labels fit: found and exhausted with n = N labels, which fit; or N is more than fit
+pub data OutcomeSays (map : List ℕ) (run : Run) (fit : ℕ) (ws : List ℕ) : Outcome → Type 0 where
+  found : {n : ℕ} → EndsFound map run ws n → n ≤ fit → OutcomeSays map run fit ws (Outcome.Found n)
+  exhausted : {n : ℕ} → EndsWithout map run ws n → n ≤ fit → OutcomeSays map run fit ws (Outcome.Exhausted n)
+  full : fit < labelCount (tripIn map run) → OutcomeSays map run fit ws Outcome.Full

@@ -13,10 +13,18 @@ ghost use Rattle.candidates.specs.Candidates.{stateOf, labelOf, statesOf, resul
 ghost use Rattle.winners.specs.Keys.{keyAt, Sound};
 ghost use Rattle.winners.specs.Mending.{Leads};
 ghost use Rattle.search.specs.Underway.{Underway, Chosen, Onward};
-ghost use Rattle.search.specs.Turns.{TurnSays};
+ghost use Rattle.search.specs.Turns.{TurnSays, OutcomeSays};
 use candidates::Bound;
 use moves::Run;
 use moves::State;
+
+// How a search ends: the last of so many labels is the answer, there are so many labels and no
+// journey, or there are more labels than fit.
+pub enum Outcome {
+    Found(usize),
+    Exhausted(usize),
+    Full,
+}
 
 // What a turn of the loop comes to: the search goes on with so many labels, or ends.
 pub enum Turn {
@@ -197,4 +205,33 @@ fn take_turn(
         return Turn::Exhausted;
     }
     offer(map, run, words, heads, spells, shifts, fit, n, w)
+}
+
+// Turn by turn from the first label to the end of the search.
+fn settle_all(
+    map: &[u8],
+    run: Run,
+    words: &mut [u32],
+    heads: &mut [u32],
+    spells: &mut [u32],
+    shifts: &mut [u32],
+    fit: usize,
+) -> Outcome
+    requires { ⌜ Accepted (now map) run ⌝ }
+    requires { ⌜ Underway (now map) run (now words) (now heads) (now spells) (now shifts) 1 ⌝ }
+    requires { ⌜ (1 ≤ fit) × (fit ≤ 1000000) × (stride * fit ≤ length (now words)) ⌝ }
+    ensures { λ r. ⌜ OutcomeSays (now (map .entry)) run fit (now (words .exit)) r ⌝ }
+{
+    let mut n: usize = 1;
+    loop {
+        let turn = take_turn(map, run, words, heads, spells, shifts, fit, n);
+        match turn {
+            Turn::Goes(labels) => {
+                n = labels;
+            }
+            Turn::Found => return Outcome::Found(n + 1),
+            Turn::Exhausted => return Outcome::Exhausted(n),
+            Turn::Full => return Outcome::Full,
+        }
+    }
 }
