@@ -5,3 +5,4 @@ pub mod Climbing
 pub mod Stopping
 pub mod Offering
 pub mod Rounds
+pub mod Beginning

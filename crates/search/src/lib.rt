@@ -1,8 +1,10 @@
 // The search: settles labels in rank order until one is at the target, none is left, or the space is full.
 ghost use mathlib.Core.Path.{_≡_};
-ghost use Prim.Native.Nat.{_+_, _*_, _<_, _≤_};
+ghost use mathlib.Core.List.{List};
+ghost use Prim.Native.Nat.{ℕ, _+_, _*_, _<_, _≤_};
 ghost use lib.Dec.{T};
 ghost use lib.ListN.{length};
+ghost use Rattle.roadmap.specs.Format.{junctionCount};
 ghost use Rattle.moves.specs.Runs.{Accepted, tripIn};
 ghost use Rattle.theory.specs.States.{Covered};
 ghost use Rattle.journeys.specs.Journeys.{atTarget};
@@ -14,9 +16,12 @@ ghost use Rattle.winners.specs.Keys.{keyAt, Sound};
 ghost use Rattle.winners.specs.Mending.{Leads};
 ghost use Rattle.search.specs.Underway.{Underway, Chosen, Onward};
 ghost use Rattle.search.specs.Turns.{TurnSays, OutcomeSays};
+ghost use Rattle.search.specs.Beginning.{AllAre, Begun};
 use candidates::Bound;
 use moves::Run;
 use moves::State;
+
+const LARGEST_WORD: u32 = 4294967295;
 
 // How a search ends: the last of so many labels is the answer, there are so many labels and no
 // journey, or there are more labels than fit.
@@ -234,4 +239,58 @@ fn settle_all(
             Turn::Full => return Outcome::Full,
         }
     }
+}
+
+// Makes every word the value.
+fn set_all(words: &mut [u32], value: u32)
+    ensures { λ _. ⌜ AllAre (now (words .exit)) value ⌝ }
+{
+    let mut i = 0;
+    while i < words.len() {
+        words[i] = value;
+        i += 1;
+    }
+}
+
+// The lists of no labels: no junction has a last label, nor a spell or a shift below the largest
+// word.
+fn clear_lists(heads: &mut [u32], spells: &mut [u32], shifts: &mut [u32])
+    requires { ⌜ (length (now spells) ≡ length (now heads)) × (length (now shifts) ≡ length (now heads)) ⌝ }
+    ensures { λ _. ⌜ ((ws : List ℕ) → Lists ws (now (heads .exit)) (now (spells .exit)) (now (shifts .exit)) 0) ⌝ }
+{
+    set_all(heads, 0);
+    set_all(spells, LARGEST_WORD);
+    set_all(shifts, LARGEST_WORD);
+}
+
+// The start is label 1, without a parent.
+fn begin(
+    map: &[u8],
+    run: Run,
+    words: &mut [u32],
+    heads: &mut [u32],
+    spells: &mut [u32],
+    shifts: &mut [u32],
+)
+    requires { ⌜ Accepted (now map) run ⌝ }
+    requires { ⌜ Lists (now words) (now heads) (now spells) (now shifts) 0 ⌝ }
+    requires { ⌜ (junctionCount (now map) < length (now heads)) × (stride ≤ length (now words)) ⌝ }
+    ensures { λ _. ⌜ Begun (now (map .entry)) run (now (words .exit)) (now (heads .exit)) (now (spells .exit)) (now (shifts .exit)) ⌝ }
+{
+    let order = run.order;
+    let start = moves::start_of(order);
+    let next = candidates::next_candidate(
+        map,
+        run,
+        words,
+        heads,
+        spells,
+        shifts,
+        0,
+        start,
+        Bound::Nothing,
+    );
+    let label = candidates::label_of(start);
+    labels::add_label(words, heads, spells, shifts, 0, label, 0, next);
+    winners::enter(map, run, words, 0);
 }
