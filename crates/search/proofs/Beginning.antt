@@ -1,7 +1,7 @@
 -- The beginning of the search in its words: the lists of no labels, and the start as label 1. Assumes nothing.
 use mathlib.Core.Path.{_≡_, _∙_, refl, sym, ap, subst}
 use mathlib.Core.List.{List, [], _∷_}
-use Prim.Native.Nat.{ℕ, _+_, _<_}
+use Prim.Native.Nat.{ℕ, _+_, _*_, _≤_, _<_}
 use native.Mathlib.Omega.{arith}
 use native.Mathlib.Nat.{le-refl}
 use native.Mathlib.Decide.{ℕ-discrete}
@@ -11,12 +11,13 @@ use Rattle.roadmap.specs.Format.{junctionCount}
 use Rattle.moves.specs.declared.State.{State}
 use Rattle.moves.specs.declared.Run.{Run}
 use Rattle.moves.specs.Moves.{startOf}
+use Rattle.moves.specs.Trip.{tripOf}
 use Rattle.moves.specs.Runs.{Accepted, InRange, tripIn}
 use Rattle.moves.proofs.Trips.{order-in}
 use Rattle.moves.proofs.Rising.{start-range}
 use Rattle.journeys.specs.Journeys.{startIn}
 use Rattle.labels.specs.declared.Label.{Label}
-use Rattle.labels.specs.Run.{largestWord, settled, column}
+use Rattle.labels.specs.Run.{stride, largestWord, settled, column}
 use Rattle.labels.specs.Lists.{Lists, LabelAdded}
 use Rattle.labels.proofs.Lists.{lists-none, lists-same}
 use Rattle.candidates.specs.declared.Bound.{Bound}
@@ -28,10 +29,12 @@ use Rattle.winners.proofs.Keys.{only-labels}
 use Rattle.winners.proofs.Steps.{ready-added}
 use Rattle.settling.proofs.Turns.{begin}
 use Rattle.settling.proofs.Endings.{begin-found}
-use Rattle.search.specs.Underway.{cursorsOf, parentsOf}
+use Rattle.search.specs.Underway.{cursorsOf, parentsOf, Underway}
+use Rattle.search.specs.Turns.{EndsFound}
 use Rattle.search.specs.Beginning.{AllAre, Begun}
 use Rattle.search.proofs.Columns.{added-states, added-cursors, added-parents}
 use Rattle.search.proofs.Turning.{run-sound, next-wider}
+use Rattle.search.proofs.Offering.{at-home, not-home}
 
 -- one word more is the value
 pub set-more : (ws : List ℕ) (i value : ℕ) → i < length ws → ((j : ℕ) → j < i → getD ws j 0 ≡ value) → (j : ℕ) → j < i + 1 → getD (set ws i value) j 0 ≡ value
@@ -94,3 +97,16 @@ module _ (map : List ℕ) (run : Run) (ok : Accepted map run) {start : State} (i
             };
             home = λ t. rw (states, parents) (begin-found (tripIn map run) (run-sound map run ok) t);
           }
+
+-- source and target are one junction, or not
+module _ (map : List ℕ) (run : Run) where
+  source-is : startIn (tripIn map run) .junction ≡ run .order .source
+  unfolding tripOf
+  source-is = refl
+
+  pub begins-home : {ws hs ss fs : List ℕ} → run .order .source ≡ run .order .target → Begun map run ws hs ss fs → stride * 1 ≤ length ws → EndsFound map run ws 1
+  begins-home same begun room =
+      record { answer = startIn (tripIn map run); room = room; ended = begun .home (at-home map run (startIn (tripIn map run)) (source-is ∙ same)) }
+
+  pub begins-away : {ws hs ss fs : List ℕ} → (run .order .source ≡ run .order .target → ⊥) → Begun map run ws hs ss fs → Underway map run ws hs ss fs 1
+  begins-away apart begun = begun .away (not-home map run (startIn (tripIn map run)) (λ e. apart (sym source-is ∙ e)))

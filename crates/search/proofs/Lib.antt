@@ -6,3 +6,4 @@ pub mod Stopping
 pub mod Offering
 pub mod Rounds
 pub mod Beginning
+pub mod Lending

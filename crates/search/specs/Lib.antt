@@ -1,3 +1,4 @@
 pub mod Underway
 pub mod Turns
 pub mod Beginning
+pub mod Searched

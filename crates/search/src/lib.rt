@@ -9,6 +9,7 @@ ghost use Rattle.moves.specs.Runs.{Accepted, tripIn};
 ghost use Rattle.theory.specs.States.{Covered};
 ghost use Rattle.journeys.specs.Journeys.{atTarget};
 ghost use Rattle.journeys.specs.Ranked.{covers};
+ghost use Rattle.journeys.specs.Planning.{labelsThatFit};
 ghost use Rattle.labels.specs.Run.{stride, labelAt, cursorOf, winnerOf};
 ghost use Rattle.labels.specs.Lists.{Lists, LabelAdded};
 ghost use Rattle.candidates.specs.Candidates.{stateOf, labelOf, statesOf, resultAt};
@@ -17,11 +18,16 @@ ghost use Rattle.winners.specs.Mending.{Leads};
 ghost use Rattle.search.specs.Underway.{Underway, Chosen, Onward};
 ghost use Rattle.search.specs.Turns.{TurnSays, OutcomeSays};
 ghost use Rattle.search.specs.Beginning.{AllAre, Begun};
+ghost use Rattle.search.specs.Searched.{Searched};
 use candidates::Bound;
 use moves::Run;
 use moves::State;
 
 const LARGEST_WORD: u32 = 4294967295;
+
+const LABEL_WORDS: usize = 8;
+
+const MOST_LABELS: usize = 1000000;
 
 // How a search ends: the last of so many labels is the answer, there are so many labels and no
 // journey, or there are more labels than fit.
@@ -293,4 +299,44 @@ fn begin(
     let label = candidates::label_of(start);
     labels::add_label(words, heads, spells, shifts, 0, label, 0, next);
     winners::enter(map, run, words, 0);
+}
+
+// The search with room for so many labels, at least one. Which junctions have labels stands in
+// local arrays, one word a junction.
+fn search_labels(map: &[u8], run: Run, words: &mut [u32], fit: usize) -> Outcome
+    requires { ⌜ Accepted (now map) run ⌝ }
+    requires { ⌜ (1 ≤ fit) × (fit ≤ 1000000) × (stride * fit ≤ length (now words)) ⌝ }
+    ensures { λ r. ⌜ OutcomeSays (now (map .entry)) run fit (now (words .exit)) r ⌝ }
+{
+    let mut heads = [0u32; 65536];
+    let mut spells = [0u32; 65536];
+    let mut shifts = [0u32; 65536];
+    clear_lists(&mut heads, &mut spells, &mut shifts);
+    begin(map, run, words, &mut heads, &mut spells, &mut shifts);
+    if run.order.source == run.order.target {
+        return Outcome::Found(1);
+    }
+    settle_all(map, run, words, &mut heads, &mut spells, &mut shifts, fit)
+}
+
+pub fn labels_that_fit(words: usize) -> usize
+    ensures { λ r. ⌜ r ≡ labelsThatFit words ⌝ }
+{
+    let whole = words / LABEL_WORDS;
+    if whole < MOST_LABELS {
+        return whole;
+    }
+    MOST_LABELS
+}
+
+// The search of an accepted run in lent words: only the labels that fit are touched.
+pub fn search(map: &[u8], run: Run, words: &mut [u32]) -> Outcome
+    requires { ⌜ Accepted (now map) run ⌝ }
+    ensures { λ r. ⌜ Searched (now (map .entry)) run (now (words .entry)) (now (words .exit)) r ⌝ }
+{
+    let fit = labels_that_fit(words.len());
+    if fit == 0 {
+        return Outcome::Full;
+    }
+    search_labels(map, run, &mut words[0..LABEL_WORDS * fit], fit)
 }
