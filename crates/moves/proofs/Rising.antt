@@ -16,9 +16,10 @@ use Rattle.driving.specs.declared.Order.{Order}
 use Rattle.driving.specs.Accepted.{AcceptedOrder}
 use Rattle.moves.specs.declared.State.{State}
 use Rattle.moves.specs.declared.Move.{Move}
+use Rattle.moves.specs.declared.Run.{Run}
 use Rattle.moves.specs.Trip.{Trip, tripOf, roadIn, roadsIn, junctionsIn}
 use Rattle.moves.specs.Moves.{startOf, leaves, offers, driven, paused, after, legal, moveSeconds}
-use Rattle.moves.specs.Runs.{InRange}
+use Rattle.moves.specs.Runs.{Accepted, InRange, tripIn}
 use Rattle.moves.proofs.Trips.{roads-in, junctions-in, order-in, road-in}
 use Rattle.moves.proofs.Stepped.{and-true}
 use Rattle.moves.proofs.Monotone.{legal-facts}
@@ -46,6 +47,9 @@ sound-trip map o accepted ordered =
   where
     within : (r : ℕ) → r ≤ roadsIn (tripOf map o) → r ≤ roadCount map
     within r high = rw (roads-in map o) at high
+
+pub run-sound : (map : List ℕ) (run : Run) → Accepted map run → SoundTrip (tripIn map run)
+run-sound map run accepted = sound-trip map (run .order) (accepted .mapped) (accepted .ordered)
 
 -- arrival less departure is the sum of road times, breaks and rests
 pub clock-after : (trip : Trip) (s : State) (m : Move) → after trip s m .clock .0 ≡ s .clock .0 + moveSeconds trip m

@@ -11,6 +11,7 @@ use Rattle.moves.specs.declared.State.{State}
 use Rattle.moves.specs.declared.Move.{Move}
 use Rattle.moves.specs.Trip.{Trip}
 use Rattle.moves.specs.Runs.{tripIn}
+use Rattle.moves.proofs.Rising.{run-sound}
 use Rattle.sheets.specs.declared.Row.{Row}
 use Rattle.sheets.specs.declared.Heading.{Heading}
 use Rattle.sheets.specs.Sheet.{sheetNeeded, sheetAfter, withHeading, withRow}
@@ -24,7 +25,7 @@ use Rattle.journeys.proofs.Rows.{rowAt, plan-rows-length}
 use Rattle.plans.specs.Held.{Found}
 use Rattle.plans.specs.Rows.{RowFor}
 use Rattle.plans.proofs.Back.{rowsBack, back-first, back-next, plan-back}
-use Rattle.plans.proofs.Counted.{run-sound, parent-word, held-descends}
+use Rattle.plans.proofs.Counted.{parent-word, held-descends}
 use Rattle.plans.proofs.Read.{label-held, parent-state}
 
 -- with the header after its records it is the whole sheet

@@ -7,16 +7,13 @@ use lib.ListN.{length, length-append}
 use Rattle.moves.specs.declared.Run.{Run}
 use Rattle.moves.specs.Trip.{Trip}
 use Rattle.moves.specs.Runs.{Accepted, tripIn}
-use Rattle.moves.proofs.Rising.{SoundTrip, sound-trip}
+use Rattle.moves.proofs.Rising.{run-sound}
 use Rattle.labels.specs.Run.{parentOf}
 use Rattle.journeys.specs.Labels.{label, parentIn}
 use Rattle.journeys.specs.Plan.{moveCount}
 use Rattle.journeys.proofs.Rows.{rowAt, plan-rows-length}
 use Rattle.plans.specs.Held.{Holds, Found, Descends, CountsMoves}
 use Rattle.plans.proofs.Back.{rowsBack, back-first, back-next, plan-back}
-
-pub run-sound : (map : List ℕ) (run : Run) → Accepted map run → SoundTrip (tripIn map run)
-run-sound map run accepted = sound-trip map (run .order) (accepted .mapped) (accepted .ordered)
 
 module _ (trip : Trip) (words : List ℕ) (n : ℕ) (held : Holds trip words n) where
   -- the word of a label's parent, by number

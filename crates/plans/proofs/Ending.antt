@@ -9,7 +9,7 @@ use Rattle.moves.specs.declared.Run.{Run}
 use Rattle.moves.specs.declared.State.{State}
 use Rattle.moves.specs.Trip.{Trip}
 use Rattle.moves.specs.Runs.{Accepted, tripIn}
-use Rattle.moves.proofs.Rising.{SoundTrip}
+use Rattle.moves.proofs.Rising.{SoundTrip, run-sound}
 use Rattle.journeys.specs.Labels.{labelCount}
 use Rattle.journeys.proofs.Labels.{label-some}
 use Rattle.labels.specs.Run.{stride, parentField, parentOf, settled, column}
@@ -17,7 +17,6 @@ use Rattle.labels.proofs.Run.{settled-length, column-at}
 use Rattle.candidates.specs.Candidates.{stateOf, statesOf}
 use Rattle.settling.specs.Settling.{Ended}
 use Rattle.plans.specs.Held.{Holds, Found}
-use Rattle.plans.proofs.Counted.{run-sound}
 
 -- the lists of the loop's end are those of the words
 pub ended-holds : (trip : Trip) → SoundTrip trip → (words : List ℕ) (n : ℕ) {a : State}

@@ -10,6 +10,7 @@ use Rattle.moves.specs.declared.State.{State}
 use Rattle.moves.specs.Trip.{Trip, tripOf}
 use Rattle.moves.specs.Runs.{InRange, tripIn}
 use Rattle.moves.proofs.Trips.{junctions-in, order-in}
+use Rattle.moves.proofs.Rising.{run-sound}
 use Rattle.theory.proofs.Lists.{mem-at}
 use Rattle.journeys.specs.Journeys.{startIn}
 use Rattle.journeys.specs.Labels.{labelsIn, label, parentIn}
@@ -21,7 +22,7 @@ use Rattle.labels.proofs.Run.{settled-at}
 use Rattle.candidates.specs.Candidates.{stateOf, labelOf}
 use Rattle.plans.specs.Moving.{SomeMove}
 use Rattle.plans.specs.Held.{Holds, Found}
-use Rattle.plans.proofs.Counted.{run-sound, parent-word, held-descends}
+use Rattle.plans.proofs.Counted.{parent-word, held-descends}
 
 getD-map : {A B : Type 0} (f : A → B) (l : List A) (d : A) (i : ℕ) → getD (map f l) i (f d) ≡ f (getD l i d)
 getD-map f [] d i = refl

@@ -14,7 +14,7 @@ use Rattle.moves.specs.Moves.{startOf}
 use Rattle.moves.specs.Trip.{tripOf}
 use Rattle.moves.specs.Runs.{Accepted, InRange, tripIn}
 use Rattle.moves.proofs.Trips.{order-in}
-use Rattle.moves.proofs.Rising.{start-range}
+use Rattle.moves.proofs.Rising.{start-range, run-sound}
 use Rattle.journeys.specs.Journeys.{startIn}
 use Rattle.labels.specs.declared.Label.{Label}
 use Rattle.labels.specs.Run.{stride, largestWord, settled, column}
@@ -33,7 +33,7 @@ use Rattle.search.specs.Underway.{cursorsOf, parentsOf, Underway}
 use Rattle.search.specs.Turns.{EndsFound}
 use Rattle.search.specs.Beginning.{AllAre, Begun}
 use Rattle.search.proofs.Columns.{added-states, added-cursors, added-parents}
-use Rattle.search.proofs.Turning.{run-sound, next-wider}
+use Rattle.search.proofs.Turning.{next-wider}
 use Rattle.search.proofs.Offering.{at-home, not-home}
 
 -- one word more is the value

@@ -11,6 +11,7 @@ use Rattle.moves.specs.declared.Run.{Run}
 use Rattle.moves.specs.declared.State.{State}
 use Rattle.moves.specs.Trip.{Trip}
 use Rattle.moves.specs.Runs.{Accepted, tripIn}
+use Rattle.moves.proofs.Rising.{run-sound}
 use Rattle.journeys.specs.Labels.{labelCount}
 use Rattle.journeys.specs.Planning.{labelsThatFit}
 use Rattle.journeys.proofs.Labels.{label-some}
@@ -23,7 +24,6 @@ use Rattle.search.specs.declared.Outcome.{Outcome}
 use Rattle.search.specs.Underway.{parentsOf}
 use Rattle.search.specs.Turns.{EndsFound, OutcomeSays, found, exhausted, full}
 use Rattle.search.specs.Searched.{Searched}
-use Rattle.search.proofs.Turning.{run-sound}
 
 -- no label fits, and the start is one
 pub none-fits : (map : List ℕ) (run : Run) → Accepted map run → (ws : List ℕ) → labelsThatFit (length ws) ≡ 0 → Searched map run ws ws Outcome.Full

@@ -9,6 +9,7 @@ use lib.ListN.{length, getD}
 use Rattle.moves.specs.declared.State.{State}
 use Rattle.moves.specs.declared.Run.{Run}
 use Rattle.moves.specs.Runs.{Accepted, tripIn}
+use Rattle.moves.proofs.Rising.{run-sound}
 use Rattle.theory.specs.States as states
 use Rattle.journeys.specs.Journeys.{atTarget}
 use Rattle.journeys.specs.Labels.{labelCount}
@@ -26,7 +27,7 @@ use Rattle.settling.proofs.Endings.{exhausted, turn-full, turn-found}
 use Rattle.search.specs.Underway.{cursorsOf, parentsOf, Underway, Chosen}
 use Rattle.search.proofs.Columns.{states-length, added-states, added-parents}
 use Rattle.search.proofs.Leading.{all-shut}
-use Rattle.search.proofs.Turning.{run-sound, loop-candidate}
+use Rattle.search.proofs.Turning.{loop-candidate}
 
 -- a state that a label's state covers is covered as a label is
 pub state-covered : (ws : List ℕ) (n : ℕ) (t : State) → states.Covered covers (statesOf ws n) t → lists.Covered (settled ws n) (labelOf t)

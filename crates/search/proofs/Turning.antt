@@ -12,7 +12,7 @@ use Rattle.moves.specs.declared.State.{State}
 use Rattle.moves.specs.declared.Run.{Run}
 use Rattle.moves.specs.Trip.{Trip}
 use Rattle.moves.specs.Runs.{Accepted, InRange, tripIn}
-use Rattle.moves.proofs.Rising.{SoundTrip, sound-trip}
+use Rattle.moves.proofs.Rising.{SoundTrip}
 use Rattle.theory.specs.States.{Covered}
 use Rattle.journeys.specs.Journeys.{atTarget}
 use Rattle.journeys.specs.Ranked.{covers}
@@ -34,10 +34,6 @@ use Rattle.settling.proofs.Pending.{covered-wider}
 use Rattle.settling.proofs.Turns.{turn-covered, settled, settled-winner, settled-covered}
 use Rattle.search.specs.Underway.{cursorsOf, parentsOf, Underway, Chosen, Onward}
 use Rattle.search.proofs.Columns.{state-is, candidate-is, cursor-next, candidate-next, advanced-states, advanced-parents, advanced-cursors, added-states, added-cursors, added-parents}
-
--- an accepted map and order make a sound trip
-pub run-sound : (map : List ℕ) (run : Run) → Accepted map run → SoundTrip (tripIn map run)
-run-sound map run ok = sound-trip map (run .order) (ok .mapped) (ok .ordered)
 
 -- what is next stays so with one more label
 pub next-wider : (trip : Trip) (L : List State) (c s : State) (bound : Bound) (v : ℕ) → NextIs trip L s bound v → NextIs trip (L ++ c ∷ []) s bound v

@@ -4,10 +4,11 @@ use native.Mathlib.Omega.{arith}
 use lib.ListN.{length}
 use borrow.Author.Needs.{needs}
 use Rattle.moves.specs.Runs.{tripIn}
+use Rattle.moves.proofs.Rising.{run-sound}
 use Rattle.labels.specs.declared.Label.{Label}
 use Rattle.labels.specs.Lists.{LabelAdded}
 use Rattle.winners.proofs.Steps.{entering}
-use Rattle.search.proofs.Turning.{run-sound, added-as, onward-as, settles, settled-now, still-chosen, key-same, chosen-range, ready-now}
+use Rattle.search.proofs.Turning.{added-as, onward-as, settles, settled-now, still-chosen, key-same, chosen-range, ready-now}
 use Rattle.search.proofs.settle_label.Statement.{statement}
 use Rattle.search.proofs.settle_label.Tie as tie
 
