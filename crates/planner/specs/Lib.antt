@@ -1,0 +1,3 @@
+-- The contract of planning.
+-- Assumes nothing.
+pub mod Planned

@@ -1,0 +1,2 @@
+// Planning: its contract in specs/.
+// Assumes nothing.
