@@ -70,7 +70,7 @@ walk-seconds clocks trip k s (row ∷ rs) {l} {ys} e = by (one-row clocks trip k
         omega (arith, go t (rest .zs) (rest .rest), ap (λ (x : State). x .clock .0) (to .result), clock-after trip s (moveOf row))
 
 -- the refusals that a walk meets number from 16
-walk-number : (clocks : Bool) (trip : Trip) (k : ℕ) (s : State) (rs : List Row) {number move : ℕ} → walk clocks trip k s rs ≡ refused number move → 16 ≤ number
+pub walk-number : (clocks : Bool) (trip : Trip) (k : ℕ) (s : State) (rs : List Row) {number move : ℕ} → walk clocks trip k s rs ≡ refused number move → 16 ≤ number
 walk-number clocks trip k s [] e = absurd (never-reached (sym e ∙ walk-end clocks trip k s))
 walk-number clocks trip k s (row ∷ rs) {number} {move} e = by (one-row clocks trip k s row) (λ t p. walk-number clocks trip (k + 1) t rs p)
   where

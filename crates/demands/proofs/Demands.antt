@@ -1,0 +1,202 @@
+-- The user's three demands, over the contracts of the operations. What each theorem says is its type; the user's words stand above it
+-- in quotes. The contracts are records and equations of specs/: `Planned` (planner), `Retimed` (retiming), `ChainMaking` (mapedit), and for
+-- the others the equation of what is told. Assumes nothing.
+use mathlib.Core.Path.{_≡_, refl, sym, ap, _∙_}
+use mathlib.Core.Bool.{Bool, true, false}
+use mathlib.Core.List.{List, [], _∷_, _++_}
+use mathlib.Core.Logic.{_↔_}
+use Prim.Native.Nat.{ℕ, _≤_, _<_}
+use native.Mathlib.Omega.{arith}
+use borrow.Author.Tests.{ne-eqb}
+use lib.ListN.{length}
+use Rattle.replies.specs.declared.Check.{Check}
+use Rattle.replies.specs.declared.NameReply.{NameReply}
+use Rattle.replies.specs.declared.Planning.{Planning}
+use Rattle.replies.specs.declared.Reply.{Reply}
+use Rattle.replies.specs.declared.Timing.{Timing}
+use Rattle.replies.specs.First.{_at_, firstOf}
+use Rattle.replies.specs.Told.{succeeded, refusedAt, toldCheck, toldName, toldTiming, toldPlan}
+use Rattle.mapcheck.specs.MapCheck.{mapTests, chainingTests}
+use Rattle.mapedit.specs.Name.{unknownName, nameReply}
+use Rattle.mapedit.specs.Chaining.{chained, chainingReply, afterChaining, ChainMaking}
+use Rattle.mapedit.specs.Pick.{pick}
+use Rattle.driving.specs.Order.{orderOf, orderTests}
+use Rattle.moves.specs.declared.State.{State}
+use Rattle.moves.specs.declared.Move.{Move}
+use Rattle.moves.specs.Trip.{Trip}
+use Rattle.sheets.specs.declared.Heading.{Heading}
+use Rattle.sheets.specs.Sheet.{headingOf}
+use Rattle.retiming.specs.Retiming.{movesOn, timing, retimingTests, auditTests, auditReply}
+use Rattle.retiming.specs.Parts.{Retimed}
+use Rattle.journeys.specs.Journeys.{Journey}
+use Rattle.journeys.specs.Labels.{labelCount}
+use Rattle.journeys.specs.Plan.{bytesNeeded}
+use Rattle.journeys.specs.Planning.{labelsThatFit, tripFrom, planTests, planReply}
+use Rattle.journeys.specs.Compared.{EasierRun}
+use Rattle.journeys.proofs.Planning.{accepted-sound, sheet-refused, reply-any-fit, sheet-any-fit}
+use Rattle.planner.specs.Planned.{Planned}
+use Rattle.demands.specs.Refused.{RepliesBy}
+use Rattle.demands.specs.Counted.{CountsLabels}
+use Rattle.demands.specs.Runs.{AcceptedRun, Plans, SaysFull, SaysNoRoad, HoldsJourney, TimedAfresh}
+use Rattle.demands.proofs.Refusals.{replies-by, map-numbered, order-numbered, chaining-numbered, name-numbered, plan-numbered, retiming-numbered, audit-numbered}
+use Rattle.demands.proofs.Counted.{counts-labels}
+use Rattle.demands.proofs.Said.{accepted-by, full-said, full-place, no-road-said, no-road-place, plans-said, short-said}
+use Rattle.demands.proofs.Written.{wrote, heading-written, holds-journey, none-earlier}
+use Rattle.demands.proofs.Afresh.{Afresh, afresh}
+
+-- DEMAND 1.
+
+-- "Every operation ends and does nothing undefined, for all maps, orders, sheets and lent space": Rattle proves of every function that it ends
+-- and does nothing undefined wherever its `requires` hold, and the operations have none: `plan`, `retime`, `audit`, `check_map`, `check_order`,
+-- `name`, `name_reply`, `make_chains`.
+
+-- "bad input gets its number and place from document 01": each refusal of the operation's list is told, with its place, exactly when it
+-- fits and none before it in the list does
+pub map-check-replies : (map : List ℕ) (answer : Check) → toldCheck answer ≡ firstOf (mapTests map) (succeeded 0 0) → RepliesBy (mapTests map) (toldCheck answer)
+map-check-replies map answer told = replies-by (mapTests map) _ refl (map-numbered map) told
+
+pub order-check-replies : (junctions : ℕ) (order : List ℕ) (answer : Check) → toldCheck answer ≡ firstOf (orderTests junctions order) (succeeded 0 0) →
+    RepliesBy (orderTests junctions order) (toldCheck answer)
+order-check-replies junctions order answer told = replies-by (orderTests junctions order) _ refl (order-numbered junctions order) told
+
+pub name-replies : (map : List ℕ) (junction : ℕ) (answer : NameReply) → toldName answer ≡ nameReply map junction →
+    RepliesBy (mapTests map ++ (20 at unknownName map junction) ∷ []) (toldName answer)
+unfolding nameReply
+name-replies map junction answer told = replies-by (mapTests map ++ (20 at unknownName map junction) ∷ []) _ refl (name-numbered map junction) told
+
+pub audit-replies : (map order sheet : List ℕ) (answer : Timing) → toldTiming answer ≡ auditReply map order sheet →
+    RepliesBy (auditTests map order sheet (timing true map (orderOf order) sheet)) (toldTiming answer)
+audit-replies map order sheet answer told = replies-by (auditTests map order sheet (timing true map (orderOf order) sheet)) _ refl (audit-numbered map order sheet) told
+
+module _ {map map′ : List ℕ} {answer : Check} (made : ChainMaking map map′ answer) where
+  pub chain-making-replies : RepliesBy (chainingTests map) (toldCheck answer)
+  unfolding chainingReply
+  chain-making-replies = replies-by (chainingTests map) _ refl (chaining-numbered map) (made .reply)
+
+  -- a refusal changes no map byte
+  pub chain-making-leaves : ¬ (toldCheck answer .number ≡ 0) → map′ ≡ map
+  unfolding afterChaining
+  chain-making-leaves refused = made .bytes ∙ ap (λ (b : Bool). pick b (chained map) map) (ne-eqb _ _ (λ e. refused (ap (λ (r : Reply). r .number) (made .reply) ∙ e)))
+
+module _ {map order sheet out out′ : List ℕ} {answer : Timing} (retimed : Retimed map order sheet out out′ answer) where
+  pub retiming-replies : RepliesBy (retimingTests map order sheet out (timing false map (orderOf order) sheet)) (toldTiming answer)
+  retiming-replies = replies-by (retimingTests map order sheet out (timing false map (orderOf order) sheet)) _ refl (retiming-numbered map order sheet out) (retimed .reply)
+
+  -- "a refusal leaves the sheet's bytes untouched"
+  pub retiming-leaves : ¬ (toldTiming answer .number ≡ 0) → out′ ≡ out
+  retiming-leaves refused = retimed .bytes ∙ rw (ne-eqb _ _ (λ e. refused (ap (λ (r : Reply). r .number) (retimed .reply) ∙ e))) refl
+
+module _ {map order words words′ sheet sheet′ : List ℕ} {answer : Planning} (run : Planned map order words words′ sheet sheet′ answer) where
+  abbrev trip : Trip
+  trip = tripFrom map order
+
+  abbrev fit : ℕ
+  fit = labelsThatFit (length words)
+
+  pub planning-replies : RepliesBy (planTests map order fit (length sheet)) (toldPlan answer)
+  unfolding planReply
+  planning-replies = replies-by (planTests map order fit (length sheet)) _ refl (plan-numbered map order fit (length sheet)) (run .reply)
+
+  -- "a refusal leaves the sheet's bytes untouched"
+  pub planning-leaves : ¬ Plans answer → sheet′ ≡ sheet
+  planning-leaves refused = run .bytes ∙ sheet-refused map order fit sheet (λ e. refused (ap (λ (r : Reply). r .number) (run .reply) ∙ e))
+
+  -- "the label space changes only once a search has begun": refusals 1 to 11 leave every word of it
+  pub planning-leaves-labels : 1 ≤ toldPlan answer .number → toldPlan answer .number ≤ 11 → words′ ≡ words
+  planning-leaves-labels = run .kept
+
+  -- DEMAND 2.
+
+  -- "A plan obeys the roads, car parks, limits and pauses of document 01": the records that the sheet's bytes hold are a legal journey with true
+  -- figures, and its arrival is the reply's
+  pub plan-obeys : Plans answer → (t : State) × HoldsJourney trip sheet′ t × (toldPlan answer .arrival ≡ t .clock .0)
+  plan-obeys plans =
+      let w = wrote (accepted-by run (rw plans tt)) run plans in
+      (w .state, holds-journey w, ap (λ (r : Reply). r .arrival) (w .told))
+
+  -- "and no legal journey arrives earlier."
+  pub plan-earliest : Plans answer → (ms : List Move) (t : State) → Journey trip ms t → toldPlan answer .arrival ≤ t .clock .0
+  plan-earliest plans ms t journey = none-earlier (wrote (accepted-by run (rw plans tt)) run plans) journey
+
+  module _ (accepted : AcceptedRun map order) where
+    -- "For an accepted map and order, 'full' is said exactly when the label count of document 01 exceeds the label space;"
+    pub full-exactly : SaysFull answer ↔ (fit < labelCount trip)
+    full-exactly = full-said accepted run
+
+    -- "otherwise 'no road' is said exactly when no legal journey exists,"
+    pub no-road-exactly : ¬ SaysFull answer → SaysNoRoad answer ↔ ((ms : List Move) (t : State) → ¬ Journey trip ms t)
+    no-road-exactly not-full = no-road-said accepted run not-full
+
+    -- "and every other run plans if its sheet is long enough." If not, it is told how many bytes are needed.
+    pub others-plan : ¬ SaysFull answer → ¬ SaysNoRoad answer → bytesNeeded trip ≤ length sheet → Plans answer
+    others-plan not-full some-road = plans-said accepted run not-full some-road
+
+    pub others-short : ¬ SaysFull answer → ¬ SaysNoRoad answer → length sheet < bytesNeeded trip → toldPlan answer ≡ refusedAt 14 (bytesNeeded trip)
+    others-short not-full some-road = short-said accepted run not-full some-road
+
+    -- the label count of document 01: how many distinct reachable undominated states rank no higher than the answer's; with no journey, all of them
+    pub label-count : (n : ℕ) → CountsLabels trip n ↔ (n ≡ labelCount trip)
+    label-count = counts-labels trip (accepted-sound map order (accepted .mapped) (accepted .ordered))
+
+  -- "full" is told with the labels that fit
+  pub full-told : SaysFull answer → toldPlan answer .place ≡ fit
+  full-told full = full-place (accepted-by run (rw full tt)) run full
+
+  -- "The N that planning reports is that label count.": in the reply of a plan, in its sheet, and with "no road"
+  pub count-planned : Plans answer → (toldPlan answer .place ≡ labelCount trip) × (headingOf sheet′ .labels ≡ labelCount trip)
+  count-planned plans =
+      let w = wrote (accepted-by run (rw plans tt)) run plans in
+      (ap (λ (r : Reply). r .place) (w .told), ap (λ (h : Heading). h .labels) (heading-written w))
+
+  pub count-no-road : SaysNoRoad answer → toldPlan answer .place ≡ labelCount trip
+  count-no-road no-road = no-road-place (accepted-by run (rw no-road tt)) run no-road
+
+-- DEMAND 3.
+
+-- "Take any two planning runs A and B with accepted maps and orders that share the junctions, the numbers and ends of the roads, source, target,
+-- departure and latest arrival. Suppose that in B no road takes longer, no limit is lower, no break or rest is longer, no starting figure is
+-- higher, and each car park of A is one. Whenever A plans,"
+module _ {mapA orderA mapB orderB : List ℕ} (accepted-a : AcceptedRun mapA orderA) (accepted-b : AcceptedRun mapB orderB) (easier : EasierRun mapB orderB mapA orderA)
+    {wordsA wordsA′ sheetA sheetA′ : List ℕ} {answerA : Planning} (run-a : Planned mapA orderA wordsA wordsA′ sheetA sheetA′ answerA) (plans-a : Plans answerA) where
+  under-b : Afresh mapB orderB sheetA′ answerA
+  under-b = afresh accepted-a accepted-b easier run-a plans-a
+
+  -- "A's moves timed afresh under B are legal and arrive no later than A."
+  pub timed-afresh : {out out′ : List ℕ} {answer : Timing} → TimedAfresh mapB orderB sheetA′ out out′ answer →
+      (toldTiming answer .number ≡ 0) × (toldTiming answer .place ≡ movesOn sheetA′) × (toldTiming answer .arrival ≤ toldPlan answerA .arrival)
+  timed-afresh timed =
+      let told = under-b .told timed in
+      (ap (λ (r : Reply). r .number) told, ap (λ (r : Reply). r .place) told, omega (arith, ap (λ (r : Reply). r .arrival) told, under-b .no-later))
+
+  module _ {wordsB wordsB′ sheetB sheetB′ : List ℕ} {answerB : Planning} (run-b : Planned mapB orderB wordsB wordsB′ sheetB sheetB′ answerB) where
+    -- "B then never says 'no road',"
+    pub easier-never-no-road : ¬ SaysNoRoad answerB
+    easier-never-no-road no-road = no-road-said accepted-b run-b (λ full. omega (arith, full)) .0 no-road _ _ (under-b .journey)
+
+    -- "and says 'full' exactly when B's own label count exceeds B's label space."
+    pub easier-full-exactly : SaysFull answerB ↔ (labelsThatFit (length wordsB) < labelCount (tripFrom mapB orderB))
+    easier-full-exactly = full-said accepted-b run-b
+
+    -- "If B isn't full and its sheet is long enough, B plans,"
+    pub easier-plans : ¬ SaysFull answerB → bytesNeeded (tripFrom mapB orderB) ≤ length sheetB → Plans answerB
+    easier-plans not-full = plans-said accepted-b run-b not-full easier-never-no-road
+
+    -- "and arrives no later than those moves timed afresh."
+    pub easier-no-later : Plans answerB → {out out′ : List ℕ} {answer : Timing} → TimedAfresh mapB orderB sheetA′ out out′ answer →
+        toldPlan answerB .arrival ≤ toldTiming answer .arrival
+    easier-no-later plans-b timed =
+        omega (arith, ap (λ (r : Reply). r .arrival) (under-b .told timed), none-earlier (wrote accepted-b run-b plans-b) (under-b .journey))
+
+not-full-told : {map order words words′ sheet sheet′ : List ℕ} {answer : Planning} → Planned map order words words′ sheet sheet′ answer → ¬ SaysFull answer →
+    ¬ (planReply map order (labelsThatFit (length words)) (length sheet) .number ≡ 12)
+not-full-told run not-full e = not-full (ap (λ (r : Reply). r .number) (run .reply) ∙ e)
+
+-- "Also, for any two planning runs that differ only in label space, where neither says 'full', their answers are equal and so is every byte of
+-- their sheets."
+pub any-label-space : {map order words₁ words₁′ words₂ words₂′ sheet sheet₁′ sheet₂′ : List ℕ} {answer₁ answer₂ : Planning} →
+    Planned map order words₁ words₁′ sheet sheet₁′ answer₁ → Planned map order words₂ words₂′ sheet sheet₂′ answer₂ → ¬ SaysFull answer₁ → ¬ SaysFull answer₂ →
+    (toldPlan answer₁ ≡ toldPlan answer₂) × (sheet₁′ ≡ sheet₂′)
+any-label-space {map} {order} {sheet = sheet} run₁ run₂ not-full₁ not-full₂ =
+    let one = not-full-told run₁ not-full₁ in
+    let two = not-full-told run₂ not-full₂ in
+    (run₁ .reply ∙ reply-any-fit map order _ _ (length sheet) one two ∙ sym (run₂ .reply), run₁ .bytes ∙ sheet-any-fit map order _ _ sheet one two ∙ sym (run₂ .bytes))

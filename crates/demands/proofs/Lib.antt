@@ -1,0 +1,8 @@
+-- The demands, and what leads to them.
+-- Assumes nothing.
+pub mod Refusals
+pub mod Counted
+pub mod Said
+pub mod Written
+pub mod Afresh
+pub mod Demands

@@ -1,0 +1,122 @@
+-- What a run of planning that plans has written, decoded from the sheet's bytes. Assumes nothing.
+use mathlib.Core.Path.{_≡_, refl, sym, ap, _∙_}
+use mathlib.Core.List.{List, map}
+use mathlib.Core.Option.{Option, none, some}
+use Prim.Native.Nat.{ℕ, _≤_}
+use native.Mathlib.Omega.{arith}
+use lib.ListN.{length, take}
+use Rattle.replies.specs.declared.Reply.{Reply}
+use Rattle.replies.specs.declared.Planning.{Planning}
+use Rattle.replies.specs.Told.{succeeded, toldPlan}
+use Rattle.moves.specs.declared.State.{State}
+use Rattle.moves.specs.declared.Move.{Move}
+use Rattle.moves.specs.Trip.{Trip}
+use Rattle.moves.proofs.Rising.{SoundTrip}
+use Rattle.sheets.specs.declared.Heading.{Heading}
+use Rattle.sheets.specs.Sheet.{headingOf, rowsOf, sheetNeeded, sheetAfter, tornSheet}
+use Rattle.sheets.proofs.Reading.{length-after, heading-back, rows-back, prefix-heading, prefix-rows, length-prefix, prefix-untorn}
+use Rattle.retiming.specs.Walk.{moveOf}
+use Rattle.retiming.specs.Retiming.{movesOn}
+use Rattle.journeys.specs.Journeys.{startIn, Journey}
+use Rattle.journeys.specs.Labels.{answerIn, labelCount}
+use Rattle.journeys.specs.Plan.{planMoves, bytesNeeded, rowsFrom, planRows, headingAt, plannedSheet}
+use Rattle.journeys.specs.Planning.{labelsThatFit, tripFrom}
+use Rattle.journeys.proofs.Labels.{answer-earliest}
+use Rattle.journeys.proofs.Plan.{plan-journey}
+use Rattle.journeys.proofs.Rows.{rows-moves, plan-rows-length}
+use Rattle.journeys.proofs.Planning.{accepted-sound, planned-facts, plan-few, sheet-planned}
+use Rattle.planner.specs.Planned.{Planned}
+use Rattle.demands.specs.Runs.{AcceptedRun, Plans, movesRead, HoldsJourney, headerAndRecords}
+use Rattle.demands.proofs.Said.{told}
+
+-- the answer's state, the reply and the sheet of a run that plans
+pub record Wrote (bytes order words sheet sheet′ : List ℕ) (answer : Planning) : Type 0 where
+  pub sound : SoundTrip (tripFrom bytes order)
+  pub state : State
+  pub answered : answerIn (tripFrom bytes order) ≡ some state
+  pub room : labelCount (tripFrom bytes order) ≤ labelsThatFit (length words)
+  pub long : bytesNeeded (tripFrom bytes order) ≤ length sheet
+  pub told : toldPlan answer ≡ succeeded (labelCount (tripFrom bytes order)) (state .clock .0)
+  pub written : sheet′ ≡ sheetAfter (headingAt (tripFrom bytes order) state) (planRows (tripFrom bytes order)) sheet
+
+pub wrote : {bytes order words words′ sheet sheet′ : List ℕ} {answer : Planning} → AcceptedRun bytes order → Planned bytes order words words′ sheet sheet′ answer → Plans answer →
+    Wrote bytes order words sheet sheet′ answer
+wrote {bytes} {order} {words} {words′} {sheet} accepted run plans =
+    let trip : Trip = tripFrom bytes order in
+    let fit : ℕ = labelsThatFit (length words) in
+    let is = told accepted run in
+    let facts = planned-facts trip fit (length sheet) (sym (ap (λ (r : Reply). r .number) is) ∙ plans) in
+    record {
+      sound = accepted-sound bytes order (accepted .mapped) (accepted .ordered);
+      state = facts .answer;
+      answered = facts .answered;
+      room = facts .room;
+      long = facts .long;
+      told = is ∙ facts .told;
+      written =
+          run .bytes
+          ∙ sheet-planned bytes order fit sheet (sym (ap (λ (r : Reply). r .number) (run .reply)) ∙ plans)
+          ∙ ap (λ (o : Option State). plannedSheet trip o sheet) (facts .answered);
+    }
+
+module _ {bytes order words sheet sheet′ : List ℕ} {answer : Planning} (w : Wrote bytes order words sheet sheet′ answer) where
+  abbrev trip : Trip
+  trip = tripFrom bytes order
+
+  abbrev heading : Heading
+  heading = headingAt trip (w .state)
+
+  pub heading-written : headingOf sheet′ ≡ heading
+  heading-written = ap headingOf (w .written) ∙ heading-back heading (planRows trip) sheet
+
+  count-written : movesOn sheet′ ≡ length (planRows trip)
+  count-written = ap (λ (h : Heading). h .moves) heading-written ∙ sym (plan-rows-length trip)
+
+  rows-written : rowsOf sheet′ 1 (movesOn sheet′) ≡ planRows trip
+  rows-written =
+      ap (rowsOf sheet′ 1) count-written
+      ∙ ap (λ (s : List ℕ). rowsOf s 1 (length (planRows trip))) (w .written)
+      ∙ rows-back heading (planRows trip) sheet
+
+  pub moves-written : movesRead sheet′ ≡ planMoves trip
+  unfolding planRows
+  moves-written = ap (map moveOf) rows-written ∙ rows-moves trip (startIn trip) (planMoves trip)
+
+  -- the sheet's bytes hold the legal journey to the answer
+  pub holds-journey : HoldsJourney trip sheet′ (w .state)
+  unfolding planRows
+  holds-journey =
+      record {
+        long = omega (arith, ap length (w .written), length-after heading (planRows trip) sheet (omega (arith, w .long, plan-rows-length trip)), w .long, count-written, plan-rows-length trip);
+        journey = rw moves-written (plan-journey trip (w .sound) (w .answered));
+        clocks = rows-written ∙ ap (rowsFrom trip (startIn trip)) (sym moves-written);
+        arrival = ap (λ (h : Heading). h .arrival) heading-written;
+        spell = ap (λ (h : Heading). h .spell) heading-written;
+        shift = ap (λ (h : Heading). h .shift) heading-written;
+      }
+
+  -- no legal journey arrives earlier
+  pub none-earlier : {ms : List Move} {t : State} → Journey trip ms t → toldPlan answer .arrival ≤ t .clock .0
+  none-earlier journey = omega (arith, ap (λ (r : Reply). r .arrival) (w .told), answer-earliest trip (w .sound) (w .answered) journey)
+
+  -- the header and the M records alone
+  kept-is : headerAndRecords sheet′ ≡ take (sheetNeeded (length (planRows trip))) (sheetAfter heading (planRows trip) sheet)
+  kept-is = rw (count-written, w .written) refl
+
+  pub heading-kept : headingOf (headerAndRecords sheet′) ≡ heading
+  heading-kept = ap headingOf kept-is ∙ prefix-heading heading (planRows trip) sheet
+
+  pub rows-kept : rowsOf (headerAndRecords sheet′) 1 (movesOn (headerAndRecords sheet′)) ≡ planRows trip
+  rows-kept =
+      ap (rowsOf (headerAndRecords sheet′) 1) (ap (λ (h : Heading). h .moves) heading-kept ∙ sym (plan-rows-length trip))
+      ∙ ap (λ (s : List ℕ). rowsOf s 1 (length (planRows trip))) kept-is
+      ∙ prefix-rows heading (planRows trip) sheet
+
+  pub length-kept : length (headerAndRecords sheet′) ≡ sheetNeeded (movesOn sheet′)
+  length-kept = ap length kept-is ∙ length-prefix heading (planRows trip) sheet ∙ ap sheetNeeded (sym count-written)
+
+  pub kept-untorn : tornSheet (headerAndRecords sheet′) ≡ none
+  kept-untorn =
+      ap tornSheet kept-is
+      ∙ prefix-untorn heading (planRows trip) sheet (sym (plan-rows-length trip))
+      (omega (arith, plan-rows-length trip, plan-few trip (w .sound) (length words) (w .room) (w .answered)))

@@ -1,0 +1,5 @@
+-- What the demands speak of beside the operations' own definitions.
+-- Assumes nothing.
+pub mod Refused
+pub mod Counted
+pub mod Runs
