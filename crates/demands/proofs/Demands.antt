@@ -1,6 +1,6 @@
--- The user's three demands, over the contracts of the operations. What each theorem says is its type; the user's words stand above it
--- in quotes. The contracts are records and equations of specs/: `Planned` (planner), `Retimed` (retiming), `ChainMaking` (mapedit), and for
--- the others the equation of what is told. Assumes nothing.
+-- The user's three demands as theorems over the operations' contracts. Assumes nothing.
+-- The user's words stand in quotes above what says them. The contracts: `Planned` (planner), `Retimed` (retiming), `ChainMaking` (mapedit) and,
+-- for the other operations, the equation of what is told.
 use mathlib.Core.Path.{_≡_, refl, sym, ap, _∙_}
 use mathlib.Core.Bool.{Bool, true, false}
 use mathlib.Core.List.{List, [], _∷_, _++_}
@@ -47,8 +47,7 @@ use Rattle.demands.proofs.Afresh.{Afresh, afresh}
 -- DEMAND 1.
 
 -- "Every operation ends and does nothing undefined, for all maps, orders, sheets and lent space": Rattle proves of every function that it ends
--- and does nothing undefined wherever its `requires` hold, and the operations have none: `plan`, `retime`, `audit`, `check_map`, `check_order`,
--- `name`, `name_reply`, `make_chains`.
+-- and does nothing undefined wherever its `requires` hold, and no operation has one (README.md, "Use it", lists the operations).
 
 -- "bad input gets its number and place from document 01": each refusal of the operation's list is told, with its place, exactly when it
 -- fits and none before it in the list does
