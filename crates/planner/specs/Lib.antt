@@ -1,3 +1,2 @@
--- The contract of planning.
--- Assumes nothing.
+pub mod Parts
 pub mod Planned

@@ -1,2 +1,105 @@
-// Planning: its contract in specs/.
-// Assumes nothing.
+// Planning: from a map, an order and lent label space to the first-arriving legal plan.
+ghost use mathlib.Core.Path.{_≡_};
+ghost use Prim.Native.Nat.{_≤_};
+ghost use lib.ListN.{length};
+ghost use Rattle.moves.specs.Runs.{Accepted, tripIn};
+ghost use Rattle.sheets.specs.Sheet.{sheetNeeded};
+ghost use Rattle.journeys.specs.Plan.{moveCount};
+ghost use Rattle.plans.specs.Held.{Found};
+ghost use Rattle.search.specs.Turns.{OutcomeSays};
+ghost use Rattle.journeys.specs.Planning.{labelsThatFit};
+ghost use Rattle.planner.specs.Parts.{HandedBack, Concluded};
+ghost use Rattle.planner.specs.Planned.{Planned};
+use moves::Opened;
+use moves::Run;
+use replies::Planning;
+use replies::Refusal;
+use search::Outcome;
+use seconds::Clock;
+use sheets::Heading;
+
+// Writes the plan to a sheet that is long enough. The answer is the last label.
+fn write_plan(
+    map: &[u8],
+    run: Run,
+    words: &[u32],
+    n: usize,
+    moves: usize,
+    sheet: &mut [u8],
+) -> Planning
+    requires { ⌜ Found (now map) run (now words) n ⌝ }
+    requires { ⌜ n ≤ 1000000 ⌝ }
+    requires { ⌜ (moves ≡ moveCount (tripIn (now map) run)) × (sheetNeeded moves ≤ length (now sheet)) ⌝ }
+    ensures { λ r. ⌜ HandedBack (now (map .entry)) run (now (sheet .entry)) (now (sheet .exit)) r ⌝ }
+{
+    plans::write_moves(map, run, words, n, moves, sheet);
+    let label = labels::read_label(words, n);
+    let heading = Heading {
+        moves: moves as u32,
+        arrival: label.clock,
+        spell: label.spell,
+        shift: label.shift,
+        labels: n as u32,
+    };
+    sheets::put_heading(sheet, heading);
+    Planning::Planned {
+        labels: heading.labels,
+        arrival: Clock(heading.arrival),
+    }
+}
+
+// The plan of a search that found an answer: refused where the sheet is short (14), else written to it.
+fn hand_back(map: &[u8], run: Run, words: &[u32], n: usize, sheet: &mut [u8]) -> Planning
+    requires { ⌜ Found (now map) run (now words) n ⌝ }
+    requires { ⌜ n ≤ 1000000 ⌝ }
+    ensures { λ r. ⌜ HandedBack (now (map .entry)) run (now (sheet .entry)) (now (sheet .exit)) r ⌝ }
+{
+    let moves = plans::count_moves(words, n);
+    let needed = 20 + 12 * moves;
+    if sheet.len() < needed {
+        return Planning::Refused(Refusal::ShortSheet(needed));
+    }
+    write_plan(map, run, words, n, moves, sheet)
+}
+
+// What a search's outcome comes to, where so many labels fit: full (12), no road (13), or the plan.
+fn conclude(
+    map: &[u8],
+    run: Run,
+    words: &[u32],
+    fit: usize,
+    outcome: Outcome,
+    sheet: &mut [u8],
+) -> Planning
+    requires { ⌜ Accepted (now map) run ⌝ }
+    requires { ⌜ fit ≤ 1000000 ⌝ }
+    requires { ⌜ OutcomeSays (now map) run fit (now words) outcome ⌝ }
+    ensures { λ r. ⌜ Concluded (now (map .entry)) run fit (now (sheet .entry)) (now (sheet .exit)) r ⌝ }
+{
+    match outcome {
+        Outcome::Found(n) => hand_back(map, run, words, n, sheet),
+        Outcome::Exhausted(n) => Planning::Refused(Refusal::NoRoad(n)),
+        Outcome::Full => Planning::Refused(Refusal::Full(fit)),
+    }
+}
+
+// Planning of an accepted map and order.
+fn plan_run(map: &[u8], run: Run, words: &mut [u32], sheet: &mut [u8]) -> Planning
+    requires { ⌜ Accepted (now map) run ⌝ }
+    ensures { λ r. ⌜ Concluded (now (map .entry)) run (labelsThatFit (length (now (words .entry)))) (now (sheet .entry)) (now (sheet .exit)) r ⌝ }
+{
+    let fit = search::labels_that_fit(words.len());
+    let outcome = search::search(map, run, words);
+    conclude(map, run, words, fit, outcome, sheet)
+}
+
+// Planning: the first-arriving legal plan, written to the sheet. `words` is label space.
+pub fn plan(map: &[u8], order: &[u8], words: &mut [u32], sheet: &mut [u8]) -> Planning
+    ensures { λ r. ⌜ Planned (now (map .entry)) (now (order .entry)) (now (words .entry)) (now (words .exit)) (now (sheet .entry)) (now (sheet .exit)) r ⌝ }
+{
+    let opened = moves::open_run(map, order);
+    match opened {
+        Opened::Refused(why) => Planning::Refused(why),
+        Opened::Ready(run) => plan_run(map, run, words, sheet),
+    }
+}

@@ -1,0 +1,79 @@
+-- What is handed back where the search found an answer: the plan, or that the sheet is short for it. Assumes nothing.
+use mathlib.Core.Path.{_≡_, _∙_, refl, sym, ap}
+use mathlib.Core.List.{List}
+use mathlib.Core.Option.{Option, some}
+use Prim.Native.Nat.{ℕ, _+_, _-_, _*_, _≤_, _<_}
+use native.Mathlib.Omega.{arith}
+use lib.ListN.{length}
+use Rattle.replies.specs.declared.Refusal.the-variants.{ShortSheet}
+use Rattle.replies.specs.declared.Planning.{Planning}
+use Rattle.replies.specs.Told.{succeeded}
+use Rattle.moves.specs.declared.Run.{Run}
+use Rattle.moves.specs.declared.State.{State}
+use Rattle.moves.specs.Trip.{Trip}
+use Rattle.moves.specs.Runs.{tripIn}
+use Rattle.moves.proofs.Rising.{SoundTrip, run-sound}
+use Rattle.sheets.specs.declared.Heading.{Heading}
+use Rattle.sheets.specs.Sheet.{sheetNeeded, withHeading}
+use Rattle.sheets.specs.Written.{backward}
+use Rattle.journeys.specs.Labels.{answerIn, label}
+use Rattle.journeys.specs.Plan.{moveCount, planRows, headingAt, plannedSheet}
+use Rattle.journeys.proofs.Plan.{answer-last, plan-short}
+use Rattle.journeys.proofs.Planning.{reply-short, reply-planned}
+use Rattle.labels.specs.declared.Label.{Label}
+use Rattle.labels.specs.Run.{labelAt}
+use Rattle.candidates.specs.Candidates.{stateOf}
+use Rattle.plans.specs.Held.{Found}
+use Rattle.plans.proofs.Read.{label-held}
+use Rattle.plans.proofs.Backward.{sheet-written}
+use Rattle.planner.specs.Parts.{HandedBack}
+
+-- the header of so many moves to a label, which is the last of so many
+abbrev pub headingFor : ℕ → Label → ℕ → Heading
+headingFor moves label n =
+    record { moves = moves; arrival = label .clock; spell = label .spell; shift = label .shift; labels = n }
+
+module _ (map : List ℕ) (run : Run) (words : List ℕ) (n : ℕ) (found : Found map run words n) where
+  abbrev trip : Trip
+  trip = tripIn map run
+
+  sound : SoundTrip trip
+  sound = run-sound map run (found .accepted)
+
+  -- the answer is the last label
+  pub answer-held : answerIn trip ≡ some (stateOf (labelAt words n))
+  answer-held =
+      let last : found .answered .0 ≡ label trip (n - 1) = answer-last trip sound (found .answered .1) (n - 1) (omega (arith, found .held .count, found .held .low)) in
+      found .answered .1 ∙ ap some (last ∙ sym (label-held trip words n (found .held) n (found .held .low) (omega arith)))
+
+  pub moves-below : moveCount trip < n
+  moves-below = omega (arith, plan-short trip sound (found .answered .1), found .held .count)
+
+  module _ (moves : ℕ) (counted : moves ≡ moveCount trip) (before : List ℕ) where
+    pub handed-short : length before < 20 + 12 * moves → HandedBack map run before before (Planning.Refused (ShortSheet (20 + 12 * moves)))
+    handed-short short =
+        record {
+          reply = λ fit room. rw counted (sym (reply-short trip fit (length before) room (found .answered .1) (rw counted at short)));
+          bytes = refl;
+        }
+
+    heading-same : headingFor moves (labelAt words n) n ≡ headingAt trip (stateOf (labelAt words n))
+    heading-same = rw (counted, found .held .count)
+
+    pub handed-written : 20 + 12 * moves ≤ length before → (last : Label) → last ≡ labelAt words n → (rows after : List ℕ)
+        → rows ≡ backward (planRows trip) 0 before → after ≡ withHeading rows (headingFor moves last n)
+        → HandedBack map run before after (Planning.Planned n (record { 0 = last .clock }))
+    handed-written fits last is rows after moved written =
+        let enough : sheetNeeded (moveCount trip) ≤ length before = rw counted at fits in
+        record {
+          reply = λ fit room.
+              ap (λ (l : Label). succeeded n (l .clock)) is
+              ∙ ap (λ (count : ℕ). succeeded count (labelAt words n .clock)) (found .held .count)
+              ∙ sym (reply-planned trip fit (length before) room answer-held enough);
+          bytes = written
+              ∙ ap (λ (s : List ℕ). withHeading s (headingFor moves last n)) moved
+              ∙ ap (λ (l : Label). withHeading (backward (planRows trip) 0 before) (headingFor moves l n)) is
+              ∙ ap (withHeading (backward (planRows trip) 0 before)) heading-same
+              ∙ sheet-written trip (headingAt trip (stateOf (labelAt words n))) before enough
+              ∙ ap (λ (o : Option State). plannedSheet trip o before) (sym answer-held);
+        }

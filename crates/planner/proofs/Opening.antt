@@ -1,0 +1,73 @@
+-- Planning from the bytes: a run that is refused, and one that is opened. Assumes nothing.
+use mathlib.Core.Path.{_≡_, _∙_, refl, sym, ap, subst}
+use mathlib.Core.List.{List, _++_}
+use Prim.Native.Nat.{ℕ, _≤_}
+use native.Mathlib.Omega.{arith}
+use lib.Dec.{eqb}
+use lib.ListN.{length}
+use Rattle.replies.specs.declared.Refusal.{Refusal}
+use Rattle.replies.specs.declared.Reply.{Reply}
+use Rattle.replies.specs.declared.Planning.{Planning}
+use Rattle.replies.specs.Told.{toldRefusal, toldPlan}
+use Rattle.replies.specs.First.{NoneFits, Refuses, firstOf}
+use Rattle.replies.proofs.First.{none-fits, refusal-number}
+use Rattle.driving.specs.declared.Order.{Order}
+use Rattle.driving.specs.Order.{orderOf}
+use Rattle.moves.specs.declared.Run.{Run}
+use Rattle.moves.specs.Trip.{Trip, tripOf}
+use Rattle.moves.specs.Runs.{tripIn}
+use Rattle.moves.specs.Opened.{runTests}
+use Rattle.journeys.specs.Planning.{labelsThatFit, tripFrom, searchTests, planned, searchReply, planReply, planSheetWhen, planSheet}
+use Rattle.journeys.proofs.Planning.{sheet-refused, SearchCase, search-case}
+use Rattle.search.specs.declared.Outcome.{Outcome}
+use Rattle.search.specs.Turns.{OutcomeSays}
+use Rattle.planner.specs.Parts.{Concluded}
+use Rattle.planner.specs.Planned.{Planned}
+
+-- the labels that fit, told otherwise
+pub as-many-fit : {map : List ℕ} {run : Run} {fit fit′ : ℕ} {ws : List ℕ} {outcome : Outcome} → fit ≡ fit′ → OutcomeSays map run fit ws outcome → OutcomeSays map run fit′ ws outcome
+as-many-fit {map} {run} {ws = ws} {outcome = outcome} e says = subst (λ (k : ℕ). OutcomeSays map run k ws outcome) e says
+
+pub concluded-with : {map : List ℕ} {run : Run} {fit fit′ : ℕ} {before after : List ℕ} {answer : Planning} → fit ≡ fit′ → Concluded map run fit before after answer → Concluded map run fit′ before after answer
+concluded-with {map} {run} {before = before} {after = after} {answer = answer} e concluded = subst (λ (k : ℕ). Concluded map run k before after answer) e concluded
+
+module _ (map order words sheet : List ℕ) where
+  abbrev fit : ℕ
+  fit = labelsThatFit (length words)
+
+  -- refusals 1 to 11: nothing has changed
+  pub run-refused : (why : Refusal) → Refuses (runTests map order) why → Planned map order words words sheet sheet (Planning.Refused why)
+  unfolding planReply
+  run-refused why refuses =
+      let told : planReply map order fit (length sheet) ≡ toldRefusal why = refuses (searchTests (tripFrom map order) fit (length sheet)) (planned (tripFrom map order)) in
+      record {
+        reply = sym told;
+        bytes = sym (sheet-refused map order fit sheet (λ e. omega (arith, refusal-number why, ap (λ (r : Reply). r .number) told)));
+        kept = λ low high. refl;
+      }
+
+  -- no reply of a search is one of refusals 1 to 11
+  late-number : (trip : Trip) (k : ℕ) → searchReply trip fit (length sheet) .number ≡ k → 1 ≤ k → k ≤ 11 → ⊥
+  late-number trip k e low high = go (search-case trip fit (length sheet))
+    where
+      go : SearchCase trip fit (length sheet) → ⊥
+      go (SearchCase.case-full h q) = omega (arith, e, low, high, ap (λ (r : Reply). r .number) q)
+      go (SearchCase.case-no-road room n q) = omega (arith, e, low, high, ap (λ (r : Reply). r .number) q)
+      go (SearchCase.case-short room a s h q) = omega (arith, e, low, high, ap (λ (r : Reply). r .number) q)
+      go (SearchCase.case-planned room a s h q) = omega (arith, e, low, high, ap (λ (r : Reply). r .number) q)
+
+  -- an opened run: what the search concludes
+  pub run-planned : (run : Run) → run .order ≡ orderOf order → NoneFits (runTests map order) → {words′ sheet′ : List ℕ} {answer : Planning}
+      → Concluded map run fit sheet sheet′ answer → Planned map order words words′ sheet sheet′ answer
+  unfolding planReply searchReply planSheet
+  run-planned run same none {words′} {sheet′} {answer} concluded =
+      let trip-same : tripIn map run ≡ tripFrom map order = ap (tripOf map) same in
+      let told : toldPlan answer ≡ searchReply (tripFrom map order) fit (length sheet) = concluded .reply ∙ ap (λ (t : Trip). searchReply t fit (length sheet)) trip-same in
+      let reply : toldPlan answer ≡ planReply map order fit (length sheet) = told ∙ sym (none-fits (runTests map order) (searchTests (tripFrom map order) fit (length sheet)) (planned (tripFrom map order)) none) in
+      record {
+        reply = reply;
+        bytes = concluded .bytes
+            ∙ ap (λ (t : Trip). planSheetWhen (eqb (toldPlan answer .number) 0) t sheet) trip-same
+            ∙ ap (λ (r : Reply). planSheetWhen (eqb (r .number) 0) (tripFrom map order) sheet) reply;
+        kept = λ low high. absurd (late-number (tripFrom map order) (toldPlan answer .number) (sym (ap (λ (r : Reply). r .number) told)) low high);
+      }

@@ -1,0 +1,50 @@
+use Prim.Native.Nat.{_<_}
+use native.Mathlib.Omega.{arith}
+use borrow.Author.Needs.{needs}
+use Rattle.moves.specs.Runs.{tripIn}
+use Rattle.plans.proofs.Counted.{held-descends}
+use Rattle.planner.proofs.Handing.{moves-below, handed-short}
+use Rattle.planner.proofs.hand_back.Statement.{statement}
+use Rattle.planner.proofs.hand_back.Tie as tie
+
+count-moves-requires : tie.Need-count-moves-requires
+count-moves-requires c κs =
+    let s = c .before .before .before in
+    let a = s .args in
+    held-descends (tripIn (a .map .now) (a .run)) (a .words .now) (a .n) (s .pre .0 .held)
+
+few-moves : (c : tie.After-count-moves) → c .count-moves .result < 1000000
+few-moves c =
+    let s = c .before .before .before .before in
+    let a = s .args in
+    omega (arith, s .pre .1, c .count-moves .ensures (a .map .now) (a .run) (s .pre .0), moves-below (a .map .now) (a .run) (a .words .now) (a .n) (s .pre .0))
+
+mul-needed : tie.Need-mul-needed
+mul-needed c = omega (arith, few-moves c)
+
+add-needed : tie.Need-add-needed
+add-needed c = omega (arith, few-moves c)
+
+returns : tie.Need-returns
+returns c =
+    let s = c .before .before .before .before .before in
+    let a = s .args in
+    handed-short (a .map .now) (a .run) (a .words .now) (a .n) (s .pre .0) (c .before .count-moves .result) (c .before .count-moves .ensures (a .map .now) (a .run) (s .pre .0)) (a .sheet .now) (c .if1 .taken)
+
+write-plan-requires : tie.Need-write-plan-requires
+write-plan-requires c κs =
+    let s = c .before .before .before .before .before .before in
+    let a = s .args in
+    (s .pre .0, (s .pre .1, (c .before .before .count-moves .ensures (a .map .now) (a .run) (s .pre .0), c .before .if1 .left)))
+
+pub hand-back-spec : {M : Type 1} → statement M
+hand-back-spec =
+    tie.close
+    (tie.spec
+    count-moves-requires
+    mul-needed
+    add-needed
+    returns
+    write-plan-requires
+    (λ c. search needs)
+    (λ c. search needs))

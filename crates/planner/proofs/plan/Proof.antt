@@ -1,0 +1,35 @@
+use mathlib.Core.Path.{subst}
+use borrow.Author.Needs.{needs}
+use Rattle.moves.specs.Opened.{OpenedSays}
+use Rattle.planner.proofs.Opening.{run-refused, run-planned}
+use Rattle.planner.proofs.plan.Statement.{statement}
+use Rattle.planner.proofs.plan.Tie as tie
+
+plan-run-requires : tie.Need-plan-run-requires
+plan-run-requires c κs =
+    let a = c .before .before .before .before .before .before .before .before .before .before .args in
+    subst (OpenedSays (a .map .now) (a .order .now)) (c .before .before .before .opened2 .given .1) (c .before .before .before .before .before .open-run .ensures) .0
+
+returns : tie.Need-returns
+returns c =
+    let a = c .before .before .before .before .before .before .before .before .args in
+    run-refused (a .map .now) (a .order .now) (a .words .now) (a .sheet .now) _ (subst (OpenedSays (a .map .now) (a .order .now)) (c .before .opened .given .1) (c .before .before .before .open-run .ensures))
+
+returns-2 : tie.Need-returns-2
+returns-2 c =
+    let a = c .before .before .before .before .before .before .before .before .before .before .before .before .before .before .before .args in
+    let ready = subst (OpenedSays (a .map .now) (a .order .now)) (c .before .before .before .before .before .before .before .before .opened2 .given .1) (c .before .before .before .before .before .before .before .before .before .before .open-run .ensures) in
+    run-planned (a .map .now) (a .order .now) (a .words .now) (a .sheet .now) _ (ready .1) (ready .2) (c .before .before .before .before .plan-run .ensures)
+
+pub plan-spec : {M : Type 1} → statement M
+plan-spec =
+    tie.close
+    (tie.spec
+    (λ c κs. search needs)
+    (λ c. search needs)
+    (λ c. search needs)
+    plan-run-requires
+    returns
+    (λ c. search needs)
+    (λ c. search needs)
+    returns-2)

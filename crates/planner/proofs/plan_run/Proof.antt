@@ -1,0 +1,27 @@
+use mathlib.Core.Path.{sym, subst}
+use Prim.Native.Nat.{ℕ}
+use native.Mathlib.Omega.{arith}
+use borrow.Author.Needs.{needs}
+use Rattle.planner.proofs.Opening.{as-many-fit, concluded-with}
+use Rattle.planner.proofs.plan_run.Statement.{statement}
+use Rattle.planner.proofs.plan_run.Tie as tie
+
+conclude-requires : tie.Need-conclude-requires
+conclude-requires c κs =
+    let s = c .before .before .before .before .before .before .before .before .before .before in
+    let fits = c .before .before .before .before .before .before .labels-that-fit .ensures in
+    (s .pre, (omega (arith, fits), as-many-fit (sym fits) (c .before .before .before .before .search .ensures .ends)))
+
+returns : tie.Need-returns
+returns c = concluded-with (c .before .before .before .before .before .before .before .before .before .labels-that-fit .ensures) (c .before .before .conclude .ensures)
+
+pub plan-run-spec : {M : Type 1} → statement M
+plan-run-spec =
+    tie.close
+    (tie.spec
+    (λ c κs. search needs)
+    (λ c κs. search needs)
+    conclude-requires
+    (λ c. search needs)
+    (λ c. search needs)
+    returns)

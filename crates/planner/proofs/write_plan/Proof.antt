@@ -1,0 +1,32 @@
+use native.Mathlib.Omega.{arith}
+use borrow.Author.Needs.{needs}
+use Rattle.planner.proofs.Handing.{moves-below, handed-written}
+use Rattle.planner.proofs.write_plan.Statement.{statement}
+use Rattle.planner.proofs.write_plan.Tie as tie
+
+cast-t12 : tie.Need-cast-t12
+cast-t12 c =
+    let s = c .before .before .before .before .before .before .before .before in
+    let a = s .args in
+    omega (arith, s .pre .1 .0, s .pre .1 .1 .0, moves-below (a .map .now) (a .run) (a .words .now) (a .n) (s .pre .0))
+
+returns : tie.Need-returns
+returns c =
+    let put = c .before .before in
+    let read = put .before .before in
+    let wrote = read .before .before .before in
+    let s = wrote .before .before .before .before .before in
+    let a = s .args in
+    handed-written (a .map .now) (a .run) (a .words .now) (a .n) (s .pre .0) (a .moves) (s .pre .1 .1 .0) (a .sheet .now) (s .pre .1 .1 .1) (read .read-label .result) (read .read-label .ensures) _ _ (wrote .write-moves .ensures) (put .put-heading .ensures)
+
+pub write-plan-spec : {M : Type 1} → statement M
+write-plan-spec =
+    tie.close
+    (tie.spec
+    (λ c κs. search needs)
+    (λ c κs. search needs)
+    cast-t12
+    (λ c. search needs)
+    (λ c κs. search needs)
+    (λ c. search needs)
+    returns)
