@@ -1,24 +1,26 @@
 -- The walk along a junction's chain: no road before the present one leads legally to t. Assumes nothing.
-use mathlib.Core.Path.{_≡_, _∙_, subst}
-use mathlib.Core.Bool.{true, false, _&&_}
+use mathlib.Core.Path.{_≡_, subst}
+use mathlib.Core.Bool.{true, false}
 use mathlib.Core.List.{List}
 use mathlib.Core.Logic.{⊎-elim}
 use Prim.Native.Nat.{ℕ, _+_, _-_, _≤_, _<_}
 use native.Mathlib.Omega.{arith}
 use native.Mathlib.Nat.{eq-or-lt-of-le}
-use Rattle.replies.proofs.First.{not-both}
+use lib.Dec.{ltb}
+use borrow.Author.Tests.{ltb-true, ltb-false, not-true, not-false}
+use Rattle.replies.proofs.First.{cases, not-both}
 use Rattle.roadmap.specs.Format.{junctionCount, roadCount, firstRoad, nextRoad, roadFrom}
 use Rattle.mapcheck.specs.MapCheck.{AcceptedMap}
 use Rattle.mapcheck.proofs.Listed.{LowestFrom, lowest-from}
 use Rattle.driving.specs.declared.Order.{Order}
 use Rattle.moves.specs.declared.State.{State}
-use Rattle.moves.specs.Trip.{tripOf, stretchOf}
-use Rattle.moves.specs.Moves.{move, driven, legal}
-use Rattle.journeys.specs.Ranked.{sameState}
+use Rattle.moves.specs.Trip.{tripOf}
+use Rattle.moves.specs.Moves.{move}
+use Rattle.moves.proofs.Stepped.{and-true}
 use Rattle.journeys.specs.Plan.{movesTo}
 use Rattle.candidates.proofs.Roads.{upTo, at-road, at-end, accepted-made}
-use Rattle.plans.specs.Moving.{Drives, RoadTo}
-use Rattle.plans.proofs.Leading.{drive-leads, road-offered, offered-road}
+use Rattle.plans.specs.Moving.{Drives, RoadTo, passesBy}
+use Rattle.plans.proofs.Leading.{road-offered, offered-road}
 
 module _ (map : List ℕ) (o : Order) (p t : State) where
   pub record Walking (r : ℕ) : Type 0 where
@@ -47,8 +49,8 @@ module _ (map : List ℕ) (o : Order) (p t : State) where
         (rw (accepted-made map accepted .first-lowest (p .junction) low high) (lowest-from (roadFrom map) (p .junction) 1 (roadCount map) (omega arith)))
         (λ c drives. offered-road map o p t c (drives .offered) .low)
 
-    pub walk-next : (r : ℕ) (s : State) → Walking r → 1 ≤ r → s ≡ driven (stretchOf map r) p → (legal o s && sameState s t) ≡ false → Walking (nextRoad map r)
-    walk-next r s walking low is fails =
+    walk-next : (r : ℕ) → Walking r → 1 ≤ r → movesTo (tripOf map o) p t (move 1 r) ≡ false → Walking (nextRoad map r)
+    walk-next r walking low fails =
         let high : r ≤ roadCount map = walking .within in
         onward (r + 1) (roadCount map - r) _ (omega arith)
         (subst (λ (j : ℕ). LowestFrom (roadFrom map) j (r + 1) (roadCount map - r) (nextRoad map r)) (walking .own low)
@@ -56,27 +58,40 @@ module _ (map : List ℕ) (o : Order) (p t : State) where
         (λ c drives.
         ⊎-elim
         (λ (same : r ≡ c).
-        absurd (not-both (drives .leads) (subst (λ (k : ℕ). movesTo (tripOf map o) p t (move 1 k) ≡ false) same (drive-leads map o p t r s low high is ∙ fails))))
+        absurd (not-both (drives .leads) (subst (λ (k : ℕ). movesTo (tripOf map o) p t (move 1 k) ≡ false) same fails)))
         (λ (less : r < c). omega arith)
         (eq-or-lt-of-le {n = r} {m = c} (subst (λ (k : ℕ). k ≤ c) (at-road (roadCount map) r low) (walking .ahead c drives))))
 
+    -- a road passed by is one of the chain's, and the walk goes on at the next
+    pub walk-on : (r : ℕ) → Walking r → passesBy (tripOf map o) p t r ≡ true → (1 ≤ r) × Walking (nextRoad map r)
+    unfolding passesBy
+    walk-on r walking passed =
+        let both = and-true {a = ltb 0 r} passed in
+        let low : 1 ≤ r = ltb-true 0 r (both .0) in
+        (low, walk-next r walking low (not-true _ (both .1)))
+
   -- the first that leads to t is the lowest
-  pub walk-found : (r : ℕ) (s : State) → Walking r → 1 ≤ r → s ≡ driven (stretchOf map r) p → (legal o s && sameState s t) ≡ true → RoadTo (tripOf map o) p t r
-  walk-found r s walking low is leads =
+  walk-found : (r : ℕ) → Walking r → 1 ≤ r → movesTo (tripOf map o) p t (move 1 r) ≡ true → RoadTo (tripOf map o) p t r
+  walk-found r walking low leads =
       record {
-        drives = λ some.
-            record {
-              offered = road-offered map o p t r low (walking .within) (walking .own low);
-              leads = drive-leads map o p t r s low (walking .within) is ∙ leads;
-            };
+        drives = λ some. record { offered = road-offered map o p t r low (walking .within) (walking .own low); leads = leads };
         lowest = λ k drives. (low, subst (λ (x : ℕ). x ≤ k) (at-road (roadCount map) r low) (walking .ahead k drives));
       }
 
   -- and at the chain's end there is none
-  pub walk-end : (r : ℕ) → Walking r → r ≤ 0 → RoadTo (tripOf map o) p t 0
+  walk-end : (r : ℕ) → Walking r → r ≤ 0 → RoadTo (tripOf map o) p t r
   walk-end r walking end =
       record {
         drives = λ some. absurd (omega arith);
         lowest = λ k drives.
             absurd (omega (arith, offered-road map o p t k (drives .offered) .high, subst (λ (x : ℕ). x ≤ k) (at-end (roadCount map) r end) (walking .ahead k drives)));
       }
+
+  -- a road not passed by is the one sought
+  pub walk-stops : (r : ℕ) → Walking r → passesBy (tripOf map o) p t r ≡ false → RoadTo (tripOf map o) p t r
+  unfolding passesBy
+  walk-stops r walking stopped =
+      ⊎-elim
+      (λ (road : ltb 0 r ≡ true). walk-found r walking (ltb-true 0 r road) (not-false _ (rw road at stopped)))
+      (λ (none : ltb 0 r ≡ false). walk-end r walking (ltb-false 0 r none))
+      (cases (ltb 0 r))

@@ -1,8 +1,9 @@
 -- Which move leads from a label's parent to the label. Assumes nothing.
 use mathlib.Core.Path.{_≡_}
-use mathlib.Core.Bool.{true}
+use mathlib.Core.Bool.{Bool, true, not, _&&_}
 use mathlib.Core.List.{List·Memᴰ}
 use Prim.Native.Nat.{ℕ, _≤_}
+use lib.Dec.{ltb}
 use Rattle.moves.specs.declared.State.{State}
 use Rattle.moves.specs.Trip.{Trip}
 use Rattle.moves.specs.Moves.{move, offers}
@@ -22,3 +23,7 @@ pub record Drives (trip : Trip) (p t : State) (r : ℕ) : Type 0 where
 pub record RoadTo (trip : Trip) (p t : State) (r : ℕ) : Type 0 where
   pub drives : 1 ≤ r → Drives trip p t r
   pub lowest : (k : ℕ) → Drives trip p t k → (1 ≤ r) × (r ≤ k)
+
+-- a chain is followed past road r: it is not the chain's end, and its drive does not lead legally from p to t
+unfoldable pub passesBy : Trip → State → State → ℕ → Bool
+passesBy trip p t r = ltb 0 r && not (movesTo trip p t (move 1 r))

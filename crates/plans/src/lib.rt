@@ -4,7 +4,7 @@ ghost use mathlib.Core.Bool.{_&&_};
 ghost use mathlib.Core.Option.{some};
 ghost use Prim.Native.Nat.{_*_, _≤_};
 ghost use lib.ListN.{length};
-ghost use Rattle.roadmap.specs.Format.{junctionCount};
+ghost use Rattle.roadmap.specs.Format.{junctionCount, roadCount};
 ghost use Rattle.moves.specs.Moves.{legal};
 ghost use Rattle.moves.specs.Runs.{Accepted, InRange, tripIn};
 ghost use Rattle.sheets.specs.Sheet.{sheetNeeded};
@@ -13,7 +13,7 @@ ghost use Rattle.journeys.specs.Ranked.{sameState};
 ghost use Rattle.journeys.specs.Plan.{moveTo, moveCount, planRows};
 ghost use Rattle.labels.specs.Run.{stride, labelAt};
 ghost use Rattle.candidates.specs.Candidates.{stateOf};
-ghost use Rattle.plans.specs.Moving.{SomeMove, RoadTo};
+ghost use Rattle.plans.specs.Moving.{SomeMove, RoadTo, passesBy};
 ghost use Rattle.plans.specs.Held.{Found, Descends, CountsMoves};
 ghost use Rattle.plans.specs.Rows.{RowFor};
 use driving::Order;
@@ -47,23 +47,30 @@ fn leads_to(order: Order, state: State, t: State) -> bool
     same_state(state, t)
 }
 
+// Whether a chain is followed past a road: it is not the chain's end, and its drive does not lead legally to t.
+fn passes_by(map: &[u8], run: Run, p: State, t: State, road: u32) -> bool
+    requires { ⌜ Accepted (now map) run × InRange (junctionCount (now map)) (run .order) p × (road ≤ roadCount (now map)) ⌝ }
+    ensures { λ b. ⌜ b ≡ passesBy (tripIn (now (map .entry)) run) p t road ⌝ }
+{
+    if road == 0 {
+        return false;
+    }
+    let order = run.order;
+    let reached = moves::after_drive(map, run, p, road);
+    !leads_to(order, reached, t)
+}
+
 // The lowest road whose drive leads legally to t, 0 where none does. A chain lists a junction's roads rising.
 fn road_to(map: &[u8], run: Run, p: State, t: State) -> u32
     requires { ⌜ Accepted (now map) run ⌝ }
     requires { ⌜ InRange (junctionCount (now map)) (run .order) p ⌝ }
     ensures { λ r. ⌜ RoadTo (tripIn (now (map .entry)) run) p t r ⌝ }
 {
-    let sizes = run.sizes;
-    let order = run.order;
-    let mut r = roadmap::first_road(map, sizes, p.junction);
-    while 0 < r {
-        let reached = moves::after_drive(map, run, p, r);
-        if leads_to(order, reached, t) {
-            return r;
-        }
-        r = roadmap::next_road(map, sizes, r);
+    let mut reader = chains::at_junction(map, p.junction);
+    while passes_by(map, run, p, t, reader.road) {
+        reader = chains::moved_on(reader);
     }
-    0
+    reader.road
 }
 
 // The parent's move to t: the lowest kind, then the lowest road. Where no road leads there some pause

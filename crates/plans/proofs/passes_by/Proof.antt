@@ -1,0 +1,28 @@
+-- The test is the definition's: there is a road, and its drive does not lead legally to t. Assumes nothing.
+use mathlib.Core.Path.{ap}
+use Prim.Native.Nat.{_≤_}
+use mathlib.Core.Bool.{not}
+use native.Mathlib.Omega.{arith}
+use borrow.Author.Needs.{needs}
+use borrow.Author.Tests.{lt-ltb, le-ltb}
+use Rattle.plans.specs.Moving.{passesBy}
+use Rattle.plans.proofs.Leading.{drive-leads}
+use Rattle.plans.proofs.passes_by.Statement.{statement}
+use Rattle.plans.proofs.passes_by.Tie as tie
+
+returns : tie.Need-returns
+unfolding passesBy
+returns c = let none : c .before .before .args .road ≤ 0 = omega (arith, c .if1 .taken) in rw (le-ltb 0 (c .before .before .args .road) none)
+
+returns-2 : tie.Need-returns-2
+unfolding passesBy
+returns-2 c =
+    let start = c .before .before .before .before .before in
+    let args = start .args in
+    let low : 1 ≤ args .road = omega (arith, c .before .before .before .if1 .left) in
+    let driven = c .before .after-drive in
+    rw (lt-ltb 0 (args .road) low, drive-leads (args .map .now) (args .run .order) (args .p) (args .t) (args .road) (driven .result) low (start .pre .2) (driven .ensures))
+    (ap not (c .leads-to .ensures))
+
+pub passes-by-spec : {M : Type 1} → statement M
+passes-by-spec = tie.close (tie.spec returns (λ c κs. search needs) (λ c κs. search needs) returns-2)
