@@ -1,0 +1,139 @@
+//! Laws between replies of one implementation: label space is free, and demand 3.
+
+use crate::case_probes::{ample_plan, label_count, marked_words, AMPLE_WORDS};
+use crate::make::random::Random;
+use crate::make::{Case, Run};
+use crate::operations::Operations;
+use crate::planning::WORDS_OF_A_LABEL;
+use crate::probe::{answer, Answer, Probe};
+use crate::reply::{Reply, FULL, SHORT_SHEET};
+use crate::sheet::sheet_bytes;
+use crate::words::word;
+
+/// The first law that a case breaks, in words.
+pub fn obeyed(operations: &Operations, case: &Case, random: &mut Random) -> Result<(), String> {
+    label_space_is_free(operations, &case.run, random)?;
+    match &case.easier {
+        Some(easier) => nothing_worse(operations, &case.run, easier, random),
+        None => Ok(()),
+    }
+}
+
+/// Runs that differ only in label space, none of them full, have equal replies and sheets.
+fn label_space_is_free(
+    operations: &Operations,
+    run: &Run,
+    random: &mut Random,
+) -> Result<(), String> {
+    let ample = ample_plan(random, run);
+    let first = answer(operations, &ample);
+    let Probe::Plan { sheet, .. } = &ample else {
+        unreachable!("an ample plan is a plan");
+    };
+    let labels = WORDS_OF_A_LABEL * label_count(&first.reply).unwrap_or(1);
+    for label_words in [labels, labels + 7, AMPLE_WORDS] {
+        let other = answer(
+            operations,
+            &Probe::Plan {
+                run: run.clone(),
+                labels: marked_words(random, label_words),
+                sheet: sheet.clone(),
+            },
+        );
+        ensure(
+            other.reply.number == FULL || other == first,
+            "the answer changes with the label space",
+        )?;
+    }
+    Ok(())
+}
+
+/// Demand 3: where A plans, A's moves hold under B and B plans too, neither arriving later.
+fn nothing_worse(
+    operations: &Operations,
+    run: &Run,
+    easier: &Run,
+    random: &mut Random,
+) -> Result<(), String> {
+    let first = answer(operations, &ample_plan(random, run));
+    if first.reply.number != 0 {
+        return Ok(());
+    }
+    let timed = moves_hold(operations, &first, easier, random)?;
+    let second = answer(operations, &ample_plan(random, easier)).reply;
+    ensure(second.number == 0, "B does not plan although A does")?;
+    ensure(
+        second.arrival <= timed.arrival,
+        "B arrives later than A's moves under B",
+    )?;
+    full_by_its_own_count(operations, easier, &second, random)
+}
+
+/// A's header and records, timed afresh under B into sheets at least as long.
+fn moves_hold(
+    operations: &Operations,
+    first: &Answer,
+    easier: &Run,
+    random: &mut Random,
+) -> Result<Reply, String> {
+    let moves = word(&first.written, 0);
+    let taken = first
+        .written
+        .get(..sheet_bytes(moves as usize))
+        .ok_or("A's sheet does not hold its moves")?;
+    let retime = |out| Probe::Retime {
+        run: easier.clone(),
+        sheet: taken.to_vec(),
+        out,
+    };
+    let exact = answer(operations, &retime(random.bytes(taken.len()))).reply;
+    let longer = answer(operations, &retime(random.bytes(taken.len() + 9))).reply;
+    for timed in [exact, longer] {
+        ensure(
+            timed.number == 0 && timed.place == moves,
+            "A's moves do not hold under B",
+        )?;
+        ensure(
+            timed.arrival <= first.reply.arrival,
+            "A's moves arrive later under B",
+        )?;
+    }
+    Ok(exact)
+}
+
+/// B is full exactly when its own count says so, and otherwise finds its road.
+fn full_by_its_own_count(
+    operations: &Operations,
+    easier: &Run,
+    planned: &Reply,
+    random: &mut Random,
+) -> Result<(), String> {
+    let count = planned.place as usize;
+    for labels in [0, 1, count - 1, count, count + 1] {
+        for bytes in [0, sheet_bytes(count)] {
+            let probe = Probe::Plan {
+                run: easier.clone(),
+                labels: marked_words(random, WORDS_OF_A_LABEL * labels),
+                sheet: random.bytes(bytes),
+            };
+            let expected = match (labels < count, bytes) {
+                (true, _) => FULL,
+                (false, 0) => SHORT_SHEET,
+                (false, _) => 0,
+            };
+            ensure(
+                answer(operations, &probe).reply.number == expected,
+                "B's refusal is not the one its own plan asks for",
+            )?;
+        }
+    }
+    Ok(())
+}
+
+fn ensure(holds: bool, complaint: &str) -> Result<(), String> {
+    if holds {
+        Ok(())
+    } else {
+        Err(complaint.to_string())
+    }
+}

@@ -1,0 +1,122 @@
+//! Random accepted orders, in proportion to the map's road times.
+
+use super::random::Random;
+use crate::map::{Map, Road};
+use crate::moves::Trip;
+use crate::order::{Order, EUROPEAN_RULES, LATEST_CLOCK, LONGEST_RULE};
+use crate::planning::reaches_at_most;
+
+/// The most reachable states that a case may have.
+pub const MOST_STATES: usize = 2_000;
+
+pub fn random_order(random: &mut Random, map: &Map) -> Order {
+    let junctions = map.junctions.len() as u64;
+    let unit = random_unit(random, map);
+    let [spell_limit, break_time, shift_limit, rest_time] = random_rules(random, unit);
+    let (spell, shift) = random_figures(random, spell_limit, shift_limit);
+    let multiple = random.pick(&[0, 2, 5, 10, 20, 40]);
+    let span = near(random, unit * multiple);
+    let departure = random_departure(random, span);
+    let (source, target) = random_ends(random, junctions);
+    Order {
+        source,
+        target,
+        departure,
+        latest: (departure + span).min(LATEST_CLOCK),
+        spell,
+        shift,
+        spell_limit,
+        break_time,
+        shift_limit,
+        rest_time,
+    }
+}
+
+/// Often the two ends of the line that many maps have.
+fn random_ends(random: &mut Random, junctions: u64) -> (u64, u64) {
+    match random.below(12) {
+        0..=5 => (1, junctions),
+        6..=10 => (random.between(1, junctions), random.between(1, junctions)),
+        _ => (junctions, junctions),
+    }
+}
+
+/// A road's time, often the longest, by which limits and pauses are measured.
+fn random_unit(random: &mut Random, map: &Map) -> u64 {
+    if map.roads.is_empty() {
+        return random.between(1, 9);
+    }
+    let any = map.roads[random.index(map.roads.len())].time();
+    let longest = map.roads.iter().map(Road::time).max().expect("a road");
+    random.pick(&[any, longest]).min(LONGEST_RULE / 3)
+}
+
+/// Words 6 to 9.
+fn random_rules(random: &mut Random, unit: u64) -> [u64; 4] {
+    if random.one_in(5) {
+        return EUROPEAN_RULES;
+    }
+    let limited = |value: u64| value.clamp(1, LONGEST_RULE);
+    let [spell_units, shift_units] = [random.between(1, 4), random.between(0, 6)];
+    let spell_limit = limited(near(random, unit * spell_units));
+    let shift_limit = limited(spell_limit + near(random, unit * shift_units));
+    let pause = random.pick(&[1, unit / 2, unit, 2 * unit]);
+    let break_time = limited(near(random, pause));
+    let longer = random.pick(&[0, 1, unit, 3 * unit]);
+    let rest_time = limited(break_time + near(random, longer));
+    [spell_limit, break_time, shift_limit, rest_time]
+}
+
+/// Words 4 and 5.
+fn random_figures(random: &mut Random, spell_limit: u64, shift_limit: u64) -> (u64, u64) {
+    match random.below(6) {
+        0..=3 => (0, 0),
+        4 => (spell_limit, random.pick(&[spell_limit, shift_limit])),
+        _ => {
+            let shift = random.between(0, shift_limit);
+            (random.between(0, shift.min(spell_limit)), shift)
+        }
+    }
+}
+
+fn random_departure(random: &mut Random, span: u64) -> u64 {
+    match random.below(4) {
+        0 => 0,
+        1 => random.below(1_000),
+        2 => random.below(LATEST_CLOCK),
+        _ => LATEST_CLOCK.saturating_sub(span),
+    }
+}
+
+/// Mostly the value itself, sometimes one less or one more: limits are often just met.
+fn near(random: &mut Random, value: u64) -> u64 {
+    match random.below(8) {
+        0 => value.saturating_sub(1),
+        1 => value + 1,
+        _ => value,
+    }
+}
+
+/// Brings latest nearer until a trip has few reachable states.
+pub fn tame(trip: &mut Trip) {
+    while !is_tame(trip) {
+        bring_latest_nearer(trip);
+    }
+}
+
+/// The same for two trips that share departure and latest.
+pub fn tame_both(one: &mut Trip, other: &mut Trip) {
+    while !is_tame(one) || !is_tame(other) {
+        bring_latest_nearer(one);
+        bring_latest_nearer(other);
+    }
+}
+
+fn is_tame(trip: &Trip) -> bool {
+    reaches_at_most(trip, MOST_STATES)
+}
+
+fn bring_latest_nearer(trip: &mut Trip) {
+    let order = &mut trip.order;
+    order.latest = order.departure + (order.latest - order.departure) * 2 / 3;
+}

@@ -1,0 +1,123 @@
+//! States, the moves that the rules offer, and which of them are legal.
+
+use crate::map::Map;
+use crate::mapcheck::accepted_map;
+use crate::order::{accepted_order, Order};
+use crate::reply::Reply;
+
+pub const DRIVE: u64 = 1;
+pub const BREAK: u64 = 2;
+pub const REST: u64 = 3;
+
+/// The fields stand in the order of rank, so that the derived comparison is rank.
+#[derive(Clone, Copy, Debug, PartialEq, Eq, PartialOrd, Ord)]
+pub struct State {
+    pub clock: u64,
+    pub spell: u64,
+    pub shift: u64,
+    pub junction: u64,
+}
+
+impl State {
+    /// Of two different states at one junction, whether this one dominates the other.
+    pub fn dominates(&self, other: &State) -> bool {
+        self != other
+            && self.junction == other.junction
+            && self.clock <= other.clock
+            && self.spell <= other.spell
+            && self.shift <= other.shift
+    }
+}
+
+/// Any kind and number that a sheet may hold. The derived comparison takes the lowest kind first,
+/// then the lowest number.
+#[derive(Clone, Copy, Debug, PartialEq, Eq, PartialOrd, Ord)]
+pub struct Move {
+    pub kind: u64,
+    pub number: u64,
+}
+
+/// An accepted map with an accepted order.
+#[derive(Clone, Debug)]
+pub struct Trip {
+    pub map: Map,
+    pub order: Order,
+}
+
+impl Trip {
+    /// Refusals 1 to 11.
+    pub fn open(map: &[u8], order: &[u8]) -> Result<Trip, Reply> {
+        let map = accepted_map(map)?;
+        let order = accepted_order(order, map.junctions.len() as u64)?;
+        Ok(Trip { map, order })
+    }
+
+    pub fn start(&self) -> State {
+        State {
+            clock: self.order.departure,
+            spell: self.order.spell,
+            shift: self.order.shift,
+            junction: self.order.source,
+        }
+    }
+
+    /// The state after a move, legal or not; none where the rules do not offer the move.
+    pub fn after(&self, state: &State, step: Move) -> Option<State> {
+        match step.kind {
+            DRIVE => self.after_drive(state, step.number),
+            BREAK if self.may_pause(state, step.number) => Some(State {
+                clock: state.clock + self.order.break_time,
+                spell: 0,
+                ..*state
+            }),
+            REST if self.may_pause(state, step.number) => Some(State {
+                clock: state.clock + self.order.rest_time,
+                spell: 0,
+                shift: 0,
+                ..*state
+            }),
+            _ => None,
+        }
+    }
+
+    fn after_drive(&self, state: &State, number: u64) -> Option<State> {
+        if !(1..=self.map.roads.len() as u64).contains(&number) {
+            return None;
+        }
+        let road = self.map.road(number);
+        (road.from == state.junction).then(|| State {
+            clock: state.clock + road.time(),
+            spell: state.spell + road.time(),
+            shift: state.shift + road.time(),
+            junction: road.to,
+        })
+    }
+
+    fn may_pause(&self, state: &State, number: u64) -> bool {
+        number == state.junction && self.map.junctions[number as usize - 1].car_park == 1
+    }
+
+    /// Whether a move that leads to this state is legal.
+    pub fn allows(&self, after: &State) -> bool {
+        after.spell <= self.order.spell_limit
+            && after.shift <= self.order.shift_limit
+            && after.clock <= self.order.latest
+    }
+
+    /// Every move that the rules offer, with the state after it.
+    pub fn offered_moves(&self, state: &State) -> Vec<(Move, State)> {
+        let drives = (1..=self.map.roads.len() as u64).map(|number| (DRIVE, number));
+        let pauses = [(BREAK, state.junction), (REST, state.junction)];
+        drives
+            .chain(pauses)
+            .map(|(kind, number)| Move { kind, number })
+            .filter_map(|step| Some((step, self.after(state, step)?)))
+            .collect()
+    }
+
+    pub fn legal_moves(&self, state: &State) -> Vec<(Move, State)> {
+        let mut moves = self.offered_moves(state);
+        moves.retain(|(_, after)| self.allows(after));
+        moves
+    }
+}

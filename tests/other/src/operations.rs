@@ -1,0 +1,35 @@
+//! The six operations as one value, so that any implementation can stand beside this one. A
+//! library's C functions need only six thin functions over slices and one `Operations` of them.
+
+use crate::planning::{plan, Document};
+use crate::reply::Reply;
+use crate::{chains, mapcheck, names, retiming};
+
+/// The reply, and the name's offset in the map and its length; both 0 beside a refusal.
+pub type NameAnswer = (Reply, usize, usize);
+
+/// Takes map, order, label words and sheet.
+pub type PlanFunction = fn(&[u8], &[u8], &mut [u32], &mut [u8]) -> Reply;
+
+/// Takes map, order, sheet and the other sheet.
+pub type RetimeFunction = fn(&[u8], &[u8], &[u8], &mut [u8]) -> Reply;
+
+#[derive(Clone, Copy)]
+pub struct Operations {
+    pub check_map: fn(map: &[u8]) -> Reply,
+    pub plan: PlanFunction,
+    pub retime: RetimeFunction,
+    pub audit: fn(map: &[u8], order: &[u8], sheet: &[u8]) -> Reply,
+    pub name: fn(map: &[u8], junction: u32) -> NameAnswer,
+    pub make_chains: fn(map: &mut [u8]) -> Reply,
+}
+
+/// Document 01's operations, as written here.
+pub const DOCUMENT: Operations = Operations {
+    check_map: mapcheck::check_map,
+    plan: plan::<Document>,
+    retime: retiming::retime,
+    audit: retiming::audit,
+    name: names::name,
+    make_chains: chains::make_chains,
+};

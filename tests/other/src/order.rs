@@ -1,0 +1,106 @@
+//! The order and refusals 9 to 11.
+
+use crate::reply::*;
+use crate::words::word;
+
+pub const ORDER_BYTES: usize = 40;
+pub const LATEST_CLOCK: u64 = 2_000_000_000;
+pub const LONGEST_RULE: u64 = 1_000_000;
+
+/// The European figures for words 6 to 9.
+pub const EUROPEAN_RULES: [u64; 4] = [16_200, 2_700, 32_400, 39_600];
+
+#[derive(Clone, Debug, PartialEq, Eq)]
+pub struct Order {
+    pub source: u64,
+    pub target: u64,
+    pub departure: u64,
+    pub latest: u64,
+    pub spell: u64,
+    pub shift: u64,
+    pub spell_limit: u64,
+    pub break_time: u64,
+    pub shift_limit: u64,
+    pub rest_time: u64,
+}
+
+impl Order {
+    fn read(bytes: &[u8]) -> Order {
+        let at = |number: usize| word(bytes, 4 * number);
+        Order {
+            source: at(0),
+            target: at(1),
+            departure: at(2),
+            latest: at(3),
+            spell: at(4),
+            shift: at(5),
+            spell_limit: at(6),
+            break_time: at(7),
+            shift_limit: at(8),
+            rest_time: at(9),
+        }
+    }
+
+    pub fn words(&self) -> [u64; 10] {
+        [
+            self.source,
+            self.target,
+            self.departure,
+            self.latest,
+            self.spell,
+            self.shift,
+            self.spell_limit,
+            self.break_time,
+            self.shift_limit,
+            self.rest_time,
+        ]
+    }
+
+    pub fn bytes(&self) -> Vec<u8> {
+        crate::words::bytes_of(&self.words())
+    }
+
+    /// Each rule on words 6 to 9: the word it is charged to, and whether it holds.
+    fn rules(&self) -> [(u64, bool); 6] {
+        [
+            (6, 1 <= self.spell_limit),
+            (8, self.spell_limit <= self.shift_limit),
+            (8, self.shift_limit <= LONGEST_RULE),
+            (7, 1 <= self.break_time),
+            (9, self.break_time <= self.rest_time),
+            (9, self.rest_time <= LONGEST_RULE),
+        ]
+    }
+
+    /// Each rule on words 0 to 5, likewise. A starting figure above its limit is charged itself.
+    fn trip(&self, junctions: u64) -> [(u64, bool); 7] {
+        [
+            (0, (1..=junctions).contains(&self.source)),
+            (1, (1..=junctions).contains(&self.target)),
+            (3, self.departure <= self.latest),
+            (3, self.latest <= LATEST_CLOCK),
+            (4, self.spell <= self.spell_limit),
+            (5, self.spell <= self.shift),
+            (5, self.shift <= self.shift_limit),
+        ]
+    }
+}
+
+/// The order, unless one of refusals 9 to 11 fits.
+pub fn accepted_order(bytes: &[u8], junctions: u64) -> Result<Order, Reply> {
+    if bytes.len() != ORDER_BYTES {
+        return Err(Reply::refused(BAD_ORDER, bytes.len() as u64));
+    }
+    let order = Order::read(bytes);
+    refuse_broken(BAD_RULES, &order.rules())?;
+    refuse_broken(BAD_TRIP, &order.trip(junctions))?;
+    Ok(order)
+}
+
+fn refuse_broken(number: u64, rules: &[(u64, bool)]) -> Result<(), Reply> {
+    let broken = rules.iter().filter(|(_, holds)| !holds);
+    match broken.map(|(charged, _)| *charged).min() {
+        Some(first) => Err(Reply::refused(number, first)),
+        None => Ok(()),
+    }
+}

@@ -1,0 +1,111 @@
+//! A single call of an operation with everything it is lent, and what is seen afterwards.
+
+use crate::lent::Lent;
+use crate::make::Run;
+use crate::operations::Operations;
+use crate::reply::{Reply, BAD_TRIP};
+
+/// One call. The bytes and words lent for writing hold marks beforehand.
+#[derive(Clone, Debug)]
+pub enum Probe {
+    CheckMap {
+        map: Vec<u8>,
+    },
+    Plan {
+        run: Run,
+        labels: Vec<u32>,
+        sheet: Vec<u8>,
+    },
+    Retime {
+        run: Run,
+        sheet: Vec<u8>,
+        out: Vec<u8>,
+    },
+    Audit {
+        run: Run,
+        sheet: Vec<u8>,
+    },
+    Name {
+        map: Vec<u8>,
+        junction: u32,
+    },
+    MakeChains {
+        map: Vec<u8>,
+    },
+}
+
+/// What a call leaves: document 01 fixes all of it.
+#[derive(Clone, Debug, PartialEq, Eq)]
+pub struct Answer {
+    pub reply: Reply,
+    /// Offset and length of a name.
+    pub part: (usize, usize),
+    /// The sheet or map lent for writing, afterwards.
+    pub written: Vec<u8>,
+    /// False where label words changed although the search had not begun.
+    pub labels_kept: bool,
+    /// False where bytes or words around the lent ones changed.
+    pub margins_kept: bool,
+}
+
+impl Answer {
+    fn of(reply: Reply) -> Answer {
+        Answer {
+            reply,
+            part: (0, 0),
+            written: Vec::new(),
+            labels_kept: true,
+            margins_kept: true,
+        }
+    }
+}
+
+pub fn answer(operations: &Operations, probe: &Probe) -> Answer {
+    match probe {
+        Probe::CheckMap { map } => Answer::of((operations.check_map)(map)),
+        Probe::Plan { run, labels, sheet } => answer_plan(operations, run, labels, sheet),
+        Probe::Retime { run, sheet, out } => {
+            let mut lent = Lent::new(out, 0xA5);
+            let reply = (operations.retime)(&run.map, &run.order, sheet, lent.content());
+            written(reply, lent)
+        }
+        Probe::Audit { run, sheet } => Answer::of((operations.audit)(&run.map, &run.order, sheet)),
+        Probe::Name { map, junction } => {
+            let (reply, offset, length) = (operations.name)(map, *junction);
+            Answer {
+                part: (offset, length),
+                ..Answer::of(reply)
+            }
+        }
+        Probe::MakeChains { map } => {
+            let mut lent = Lent::new(map, 0xA5);
+            let reply = (operations.make_chains)(lent.content());
+            written(reply, lent)
+        }
+    }
+}
+
+fn answer_plan(operations: &Operations, run: &Run, labels: &[u32], sheet: &[u8]) -> Answer {
+    let mut lent_labels = Lent::new(labels, 0xA5A5_A5A5);
+    let mut lent_sheet = Lent::new(sheet, 0xA5);
+    let reply = (operations.plan)(
+        &run.map,
+        &run.order,
+        lent_labels.content(),
+        lent_sheet.content(),
+    );
+    let searched = reply.number == 0 || reply.number > BAD_TRIP;
+    Answer {
+        labels_kept: searched || lent_labels.is_unchanged(),
+        margins_kept: lent_labels.margins_kept() && lent_sheet.margins_kept(),
+        ..written(reply, lent_sheet)
+    }
+}
+
+fn written(reply: Reply, mut lent: Lent<u8>) -> Answer {
+    Answer {
+        margins_kept: lent.margins_kept(),
+        written: lent.content().to_vec(),
+        ..Answer::of(reply)
+    }
+}

@@ -1,0 +1,151 @@
+//! The generator, the practice maps and the laws.
+
+use std::collections::BTreeSet;
+
+use crate::case_probes::ample_plan;
+use crate::compare::marks;
+use crate::laws::obeyed;
+use crate::make::practice::{draw, practice_map, USUAL_START};
+use crate::make::{case, Case};
+use crate::mapcheck::check_map;
+use crate::moves::{State, Trip};
+use crate::operations::DOCUMENT;
+use crate::planning::{reachable_states, undominated, Document};
+use crate::probe::answer;
+use crate::reply::Reply;
+use crate::sheet::sheet_bytes;
+use crate::special;
+use crate::words::word;
+use crate::wrong::wrong_copies;
+
+const SEED: u64 = 1;
+const CASES: u64 = 300;
+
+fn cases() -> impl Iterator<Item = Case> {
+    (1..=CASES).map(|number| case(SEED, number))
+}
+
+pub fn practice_maps() {
+    assert_eq!(draw(&mut USUAL_START.clone()), 723_471_715);
+    let single = practice_map(1, USUAL_START);
+    assert_eq!(single.names, b"J1");
+    assert!(single
+        .roads
+        .iter()
+        .all(|road| (road.from, road.to) == (1, 1)));
+    for junctions in [1, 2, 9, 10, 100, 12_288] {
+        let map = practice_map(junctions, USUAL_START);
+        let bytes = map.bytes();
+        assert_eq!(check_map(&bytes), Reply::success(0, 0));
+        assert_eq!(
+            bytes.len() as u64,
+            16 + 56 * junctions + map.names.len() as u64
+        );
+        let mut linked = map.clone();
+        linked.link_chains();
+        assert_eq!(linked, map);
+    }
+    let largest = practice_map(12_288, USUAL_START);
+    assert_eq!(
+        (largest.names.len(), largest.bytes().len()),
+        (62_622, 750_766)
+    );
+}
+
+/// Both runs are accepted, and B has all that A has.
+pub fn pairs_make_nothing_worse() {
+    for case in cases() {
+        let Some(easier) = &case.easier else {
+            continue;
+        };
+        let a = Trip::open(&case.run.map, &case.run.order).expect("accepted");
+        let b = Trip::open(&easier.map, &easier.order).expect("accepted");
+        for (one, other) in a.map.roads.iter().zip(&b.map.roads) {
+            assert_eq!((one.from, one.to), (other.from, other.to));
+            assert!(other.time() <= one.time());
+        }
+        for (one, other) in a.map.junctions.iter().zip(&b.map.junctions) {
+            assert!(other.car_park >= one.car_park);
+        }
+        let (a, b) = (a.order.words(), b.order.words());
+        assert_eq!(a[..4], b[..4]);
+        assert!([4, 5, 7, 9].iter().all(|number| b[*number] <= a[*number]));
+        assert!([6, 8].iter().all(|number| b[*number] >= a[*number]));
+    }
+}
+
+/// The definition itself: each state is held against every reachable one.
+fn undominated_by_pairs(reachable: &BTreeSet<State>) -> Vec<State> {
+    let dominated = |state: &State| reachable.iter().any(|other| other.dominates(state));
+    reachable
+        .iter()
+        .filter(|state| !dominated(state))
+        .copied()
+        .collect()
+}
+
+pub fn dominance_by_pairs_agrees() {
+    for case in cases() {
+        if let Ok(trip) = Trip::open(&case.run.map, &case.run.order) {
+            let reachable = reachable_states::<Document>(&trip);
+            let expected = undominated_by_pairs(&reachable);
+            assert_eq!(undominated::<Document>(&reachable), expected);
+        }
+    }
+}
+
+pub fn plans_pass_their_audit() {
+    for (number, case) in (1..).zip(cases()) {
+        let run = &case.run;
+        let seen = answer(&DOCUMENT, &ample_plan(&mut marks(SEED, number), run));
+        if seen.reply.number != 0 {
+            continue;
+        }
+        let moves = word(&seen.written, 0);
+        let plan = &seen.written[..sheet_bytes(moves as usize)];
+        let audited = (DOCUMENT.audit)(&run.map, &run.order, plan);
+        assert_eq!(audited, Reply::success(moves, seen.reply.arrival));
+    }
+}
+
+/// The laws alone, without a second implementation, must find such planners.
+pub fn laws_notice_wrong_planners() {
+    for copy in wrong_copies() {
+        if !["full-when-just-enough", "invented-count", "sheet-unwritten"].contains(&copy.name) {
+            continue;
+        }
+        let unnoticed = (1..)
+            .zip(cases())
+            .filter(|(_, case)| case.easier.is_some())
+            .all(|(number, case)| {
+                obeyed(&copy.operations, &case, &mut marks(SEED, number)).is_ok()
+            });
+        assert!(!unnoticed, "{}", copy.name);
+    }
+}
+
+pub fn special_calls_have_the_replies_meant() {
+    let replies: Vec<(&str, u64, u64)> = special::probes()
+        .iter()
+        .map(|probe| (probe.operation(), answer(&DOCUMENT, probe).reply))
+        .map(|(operation, reply)| (operation, reply.number, reply.place))
+        .collect();
+    let longest = 20 + 12 * 1_000_000;
+    let expected = [
+        ("make chains", 0, 0),
+        ("name", 0, 32),
+        ("check map", 0, 0),
+        ("check map", 7, 262_143),
+        ("check map", 8, 7_340_011),
+        ("retime", 0, 999_999),
+        ("audit", 0, 999_999),
+        ("retime", 15, longest),
+        ("audit", 15, longest),
+        ("plan", 0, 1),
+        ("check map", 7, 1),
+    ];
+    assert_eq!(replies[..expected.len()], expected);
+    let (operation, number, labels) = replies[expected.len()];
+    assert_eq!((operation, number), ("plan", 0));
+    assert!(labels > 8);
+}

@@ -1,0 +1,106 @@
+//! Document 01's trial trips.
+
+use super::fixtures::*;
+use crate::map::Road;
+use crate::moves::{State, Trip, DRIVE};
+use crate::order::EUROPEAN_RULES;
+use crate::reply::Reply;
+use crate::sheet::Sheet;
+
+fn time(metres: u64, speed: u64) -> u64 {
+    let road = Road {
+        from: 1,
+        to: 1,
+        metres,
+        speed,
+        next: 0,
+    };
+    road.time()
+}
+
+pub fn road_times() {
+    let times: Vec<u64> = map_t().roads.iter().map(Road::time).collect();
+    assert_eq!(times, [10_800, 7_200, 18_000]);
+    assert_eq!(time(1, 130), 1);
+    assert_eq!(time(1_250, 90), 50);
+    assert_eq!(time(1_251, 90), 51);
+    assert_eq!(time(2_000_000, 5), 1_440_000);
+}
+
+fn plan_t() -> Sheet {
+    Sheet {
+        arrival: 20_700,
+        spell: 7_200,
+        shift: 18_000,
+        labels: 4,
+        records: records(&[(1, 1, 10_800), (2, 2, 13_500), (1, 2, 20_700)]),
+    }
+}
+
+pub fn map_t_is_planned() {
+    let (reply, sheet) = planned(&map_t(), &order_t(), 32, 56);
+    assert_eq!(reply, Reply::success(4, 20_700));
+    assert_eq!(sheet, plan_t().bytes());
+}
+
+pub fn three_labels_are_full() {
+    for label_words in [24, 31] {
+        let (reply, sheet) = planned(&map_t(), &order_t(), label_words, 56);
+        assert_eq!(reply, refused(12, 3));
+        assert_eq!(sheet, [MARK; 56]);
+    }
+}
+
+pub fn latest_just_met_and_just_missed() {
+    let mut order = order_t();
+    order.latest = 20_700;
+    assert_eq!(
+        planned(&map_t(), &order, 800, 56).0,
+        Reply::success(4, 20_700)
+    );
+    order.latest = 20_699;
+    assert_eq!(planned(&map_t(), &order, 800, 56).0, refused(13, 3));
+}
+
+/// Spell 9,000 and a road of 7,200 seconds is legal, 9,001 is not.
+pub fn spell_just_met_and_just_missed() {
+    for (spell, legal) in [(9_000, true), (9_001, false)] {
+        let mut order = order_t();
+        (order.source, order.spell, order.shift) = (2, spell, spell);
+        let trip = Trip::open(&map_t().bytes(), &order.bytes()).expect("an accepted run");
+        let mut moves = trip.legal_moves(&trip.start());
+        moves.retain(|(step, _)| step.kind == DRIVE);
+        assert_eq!(moves.len(), usize::from(legal));
+    }
+}
+
+pub fn dominance() {
+    let state = |clock, spell, shift, junction| State {
+        clock,
+        spell,
+        shift,
+        junction,
+    };
+    let (early, fresh) = (
+        state(10_000, 10_000, 10_000, 1),
+        state(13_000, 300, 10_300, 1),
+    );
+    assert!(!early.dominates(&fresh) && !fresh.dominates(&early));
+    assert!(!early.dominates(&early));
+    assert!(early.dominates(&state(10_000, 10_000, 10_001, 1)));
+    assert!(!early.dominates(&state(10_000, 10_000, 10_001, 2)));
+}
+
+pub fn sheet_just_long_enough() {
+    let (reply, sheet) = planned(&map_t(), &order_t(), 800, 55);
+    assert_eq!(reply, refused(14, 56));
+    assert_eq!(sheet, [MARK; 55]);
+    let (reply, sheet) = planned(&map_t(), &order_t(), 800, 60);
+    assert_eq!(reply, Reply::success(4, 20_700));
+    assert_eq!(sheet[..56], plan_t().bytes());
+    assert_eq!(sheet[56..], [MARK; 4]);
+}
+
+pub fn european_figures() {
+    assert_eq!(EUROPEAN_RULES, [16_200, 2_700, 32_400, 39_600]);
+}

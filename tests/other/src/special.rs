@@ -1,0 +1,208 @@
+//! Single large calls that random cases never make: the greatest counts of document 01.
+
+use crate::case_probes::AMPLE_WORDS;
+use crate::make::orders::tame;
+use crate::make::practice::{practice_map, MOST_JUNCTIONS, USUAL_START};
+use crate::make::Run;
+use crate::map::{Junction, Map, Road};
+use crate::moves::{Move, Trip, DRIVE};
+use crate::order::{Order, EUROPEAN_RULES};
+use crate::planning::{MOST_LABELS, WORDS_OF_A_LABEL};
+use crate::probe::Probe;
+use crate::sheet::{Record, Sheet, MOST_MOVES};
+
+pub fn probes() -> Vec<Probe> {
+    let mut probes = largest_map_probes();
+    probes.extend(longest_sheet_probes());
+    probes.push(label_space_to_spare());
+    probes.push(shared_chain());
+    probes.push(largest_practice_map());
+    probes
+}
+
+/// The largest map, sound and with a fault at its very end.
+fn largest_map_probes() -> Vec<Probe> {
+    let sound = largest_map();
+    let mut off_its_chain = sound.clone();
+    let last = off_its_chain.roads.len() - 1;
+    off_its_chain.roads[last].from = 1;
+    let mut bad_letter = sound.clone();
+    *bad_letter.names.last_mut().expect("name bytes") = 0x7F;
+    let mut probes = vec![
+        Probe::MakeChains {
+            map: off_its_chain.bytes(),
+        },
+        Probe::Name {
+            map: sound.bytes(),
+            junction: 65_535,
+        },
+    ];
+    for map in [sound, off_its_chain, bad_letter] {
+        probes.push(Probe::CheckMap { map: map.bytes() });
+    }
+    probes
+}
+
+fn largest_map() -> Map {
+    let (junctions, roads, name_bytes) = (65_535, 262_143, 1_048_576);
+    let junction = |number: u64| Junction {
+        first: 0,
+        car_park: number % 2,
+        name_start: number,
+        name_length: 32,
+    };
+    let road = |number: u64| Road {
+        from: 1 + number % junctions,
+        to: 1 + number * 7 % junctions,
+        metres: 1 + number,
+        speed: 80,
+        next: 0,
+    };
+    let mut map = Map {
+        junctions: (1..=junctions).map(junction).collect(),
+        roads: (1..=roads).map(road).collect(),
+        names: vec![b'n'; name_bytes],
+    };
+    map.link_chains();
+    map
+}
+
+/// As many drives round a road of one second as a sheet may hold, and one more.
+fn longest_sheet_probes() -> Vec<Probe> {
+    let run = Run {
+        map: round_trip_map().bytes(),
+        order: patient_order().bytes(),
+    };
+    let mut probes = Vec::new();
+    for moves in [MOST_MOVES, MOST_MOVES + 1] {
+        let sheet = round_trips(moves).bytes();
+        probes.push(Probe::Retime {
+            run: run.clone(),
+            out: vec![0xEE; sheet.len() + 1],
+            sheet: sheet.clone(),
+        });
+        probes.push(Probe::Audit {
+            run: run.clone(),
+            sheet,
+        });
+    }
+    probes
+}
+
+fn round_trip_map() -> Map {
+    let mut map = Map {
+        junctions: vec![junction_without_roads()],
+        roads: vec![round_road()],
+        names: b"x".to_vec(),
+    };
+    map.link_chains();
+    map
+}
+
+fn junction_without_roads() -> Junction {
+    Junction {
+        first: 0,
+        car_park: 1,
+        name_start: 0,
+        name_length: 1,
+    }
+}
+
+/// A road of one second from junction 1 to itself.
+fn round_road() -> Road {
+    Road {
+        from: 1,
+        to: 1,
+        metres: 1,
+        speed: 130,
+        next: 0,
+    }
+}
+
+fn patient_order() -> Order {
+    Order {
+        source: 1,
+        target: 1,
+        departure: 0,
+        latest: 2_000_000_000,
+        spell: 0,
+        shift: 0,
+        spell_limit: 1_000_000,
+        break_time: 1,
+        shift_limit: 1_000_000,
+        rest_time: 1,
+    }
+}
+
+fn round_trips(moves: u64) -> Sheet {
+    let record = |clock| Record {
+        step: Move {
+            kind: DRIVE,
+            number: 1,
+        },
+        clock,
+    };
+    Sheet {
+        arrival: moves,
+        spell: moves,
+        shift: moves,
+        labels: 1,
+        records: (1..=moves).map(record).collect(),
+    }
+}
+
+/// More label words than may be used.
+fn label_space_to_spare() -> Probe {
+    let order = Order {
+        latest: 10,
+        ..patient_order()
+    };
+    Probe::Plan {
+        run: Run {
+            map: round_trip_map().bytes(),
+            order: order.bytes(),
+        },
+        labels: vec![0xA5A5_A5A5; WORDS_OF_A_LABEL * (MOST_LABELS + 1)],
+        sheet: vec![0xEE; 21],
+    }
+}
+
+/// Every junction has the first road's chain, which runs through all roads of junction 1.
+fn shared_chain() -> Probe {
+    let mut map = Map {
+        junctions: vec![junction_without_roads(); 1_000],
+        roads: vec![round_road(); 2_000],
+        names: b"x".to_vec(),
+    };
+    map.link_chains();
+    map.junctions
+        .iter_mut()
+        .for_each(|junction| junction.first = 1);
+    Probe::CheckMap { map: map.bytes() }
+}
+
+/// The largest practice map, with so near a latest that few states are reachable.
+fn largest_practice_map() -> Probe {
+    let [spell_limit, break_time, shift_limit, rest_time] = EUROPEAN_RULES;
+    let mut trip = Trip {
+        map: practice_map(MOST_JUNCTIONS, USUAL_START),
+        order: Order {
+            target: 4,
+            latest: 30_000,
+            spell_limit,
+            break_time,
+            shift_limit,
+            rest_time,
+            ..patient_order()
+        },
+    };
+    tame(&mut trip);
+    Probe::Plan {
+        run: Run {
+            map: trip.map.bytes(),
+            order: trip.order.bytes(),
+        },
+        labels: vec![0xA5A5_A5A5; AMPLE_WORDS],
+        sheet: vec![0xEE; 1_000],
+    }
+}

@@ -1,0 +1,115 @@
+//! What the random cases reach: refusals by operation, and how plans come out.
+
+use std::collections::BTreeMap;
+use std::fmt::Write;
+
+use crate::case_probes::{ample_plan, label_count, probes};
+use crate::compare::marks;
+use crate::make::random::Random;
+use crate::make::{case, Run};
+use crate::moves::{BREAK, DRIVE, REST};
+use crate::operations::DOCUMENT;
+use crate::probe::{answer, Answer};
+use crate::sheet::{sheet_bytes, Sheet};
+use crate::words::word;
+
+const OPERATIONS: [&str; 6] = [
+    "check map",
+    "plan",
+    "retime",
+    "audit",
+    "name",
+    "make chains",
+];
+
+#[derive(Default)]
+pub struct Summary {
+    calls: u64,
+    /// Replies by number and operation.
+    replies: BTreeMap<(u64, &'static str), u64>,
+    pairs: u64,
+    /// Runs with a plan or with no road, by the highest power of two not above N.
+    counts: BTreeMap<u64, u64>,
+    /// Plans by number of moves.
+    lengths: BTreeMap<usize, u64>,
+    /// Plans with at least one move of a kind.
+    kinds: BTreeMap<u64, u64>,
+}
+
+pub fn summary(seed: u64, count: u64) -> Summary {
+    let mut summary = Summary::default();
+    for number in 1..=count {
+        let case = case(seed, number);
+        let random = &mut marks(seed, number);
+        for probe in probes(&DOCUMENT, &case, random) {
+            let number = answer(&DOCUMENT, &probe).reply.number;
+            *summary
+                .replies
+                .entry((number, probe.operation()))
+                .or_default() += 1;
+            summary.calls += 1;
+        }
+        summary.pairs += u64::from(case.easier.is_some());
+        for run in [Some(&case.run), case.easier.as_ref()]
+            .into_iter()
+            .flatten()
+        {
+            summary.add_plan(random, run);
+        }
+    }
+    summary
+}
+
+impl Summary {
+    fn add_plan(&mut self, random: &mut Random, run: &Run) {
+        let seen = answer(&DOCUMENT, &ample_plan(random, run));
+        if let Some(count) = label_count(&seen.reply) {
+            *self.counts.entry(1 << count.ilog2()).or_default() += 1;
+        }
+        if seen.reply.number == 0 {
+            self.add_moves(&seen);
+        }
+    }
+
+    fn add_moves(&mut self, seen: &Answer) {
+        let length = sheet_bytes(word(&seen.written, 0) as usize);
+        let records = Sheet::read(&seen.written[..length])
+            .expect("a plan")
+            .records;
+        *self.lengths.entry(records.len()).or_default() += 1;
+        for kind in [DRIVE, BREAK, REST] {
+            if records.iter().any(|record| record.step.kind == kind) {
+                *self.kinds.entry(kind).or_default() += 1;
+            }
+        }
+    }
+
+    pub fn describe(&self) -> String {
+        let mut text = format!("{} calls, {} pairs of runs\n", self.calls, self.pairs);
+        let _ = write!(text, "{:>7}", "number");
+        for operation in OPERATIONS {
+            let _ = write!(text, "{operation:>12}");
+        }
+        text.push('\n');
+        for number in 0..=20 {
+            let _ = write!(text, "{number:>7}");
+            for operation in OPERATIONS {
+                let times = self.replies.get(&(number, operation)).unwrap_or(&0);
+                let _ = write!(text, "{times:>12}");
+            }
+            text.push('\n');
+        }
+        describe_row(&mut text, "runs with N from", &self.counts);
+        describe_row(&mut text, "plans with moves", &self.lengths);
+        describe_row(&mut text, "plans with kind", &self.kinds);
+        text
+    }
+}
+
+fn describe_row<K: std::fmt::Display>(text: &mut String, title: &str, row: &BTreeMap<K, u64>) {
+    let entries: Vec<String> = row
+        .iter()
+        .map(|(key, times)| format!("{key}: {times}"))
+        .collect();
+    let _ = writeln!(text, "{title}: {}", entries.join(", "));
+}

@@ -1,0 +1,60 @@
+//! Answers the worked cases that `tests/worked_cases.py` stores for the program `trials`, in that
+//! program's format.
+
+use crate::operations::DOCUMENT;
+use crate::order::accepted_order;
+use crate::reply::{told, Reply};
+use crate::report::hexadecimal;
+use crate::words::word;
+
+/// One line for each case, as the program must print it.
+pub fn answers(mut stored: &[u8]) -> String {
+    let mut lines = String::new();
+    while !stored.is_empty() {
+        lines.push_str(&answer_next(&mut stored));
+    }
+    lines
+}
+
+fn answer_next(stored: &mut &[u8]) -> String {
+    let kind = take(stored, 1)[0];
+    let title_length = usize::from(take(stored, 1)[0]);
+    let title = String::from_utf8_lossy(take(stored, title_length));
+    let figures = take(stored, 16);
+    let [number, map, order, sheet] = [0, 4, 8, 12].map(|offset| word(figures, offset) as usize);
+    let [map, order, sheet] = [map, order, sheet].map(|length| take(stored, length));
+    let answer = match kind {
+        b'm' => line((DOCUMENT.check_map)(map)),
+        b'o' => line(told(
+            accepted_order(order, number as u64).map(|_| Reply::success(0, 0)),
+        )),
+        b'n' => {
+            let (reply, offset, length) = (DOCUMENT.name)(map, number as u32);
+            let name = String::from_utf8_lossy(&map[offset..offset + length]);
+            format!("{} <{name}>", line(reply))
+        }
+        b'c' => {
+            let mut written = map.to_vec();
+            let reply = (DOCUMENT.make_chains)(&mut written);
+            format!("{} {}", line(reply), hexadecimal(&written))
+        }
+        b'r' => {
+            let mut out = vec![0xEE; number];
+            let reply = (DOCUMENT.retime)(map, order, sheet, &mut out);
+            format!("{} {}", line(reply), hexadecimal(&out))
+        }
+        b'a' => line((DOCUMENT.audit)(map, order, sheet)),
+        other => format!("unknown kind {other}"),
+    };
+    format!("{title}: {answer}\n")
+}
+
+fn take<'a>(stored: &mut &'a [u8], length: usize) -> &'a [u8] {
+    let (taken, rest) = stored.split_at(length);
+    *stored = rest;
+    taken
+}
+
+fn line(reply: Reply) -> String {
+    format!("{} {} {}", reply.number, reply.place, reply.arrival)
+}

@@ -1,0 +1,325 @@
+//! Deliberately wrong copies: `compare` must find each.
+
+use crate::chains::make_chains;
+use crate::mapcheck::check_map;
+use crate::moves::{Move, State, Trip, BREAK, DRIVE, REST};
+use crate::names::name;
+use crate::operations::{NameAnswer, Operations, PlanFunction, RetimeFunction, DOCUMENT};
+use crate::planning::{labels_that_fit, plan, Document, Planner};
+use crate::reply::*;
+use crate::retiming::{audit, retime};
+use crate::sheet::{sheet_bytes, Sheet};
+use crate::words::{put_word, word};
+
+pub struct WrongCopy {
+    pub name: &'static str,
+    pub operations: Operations,
+}
+
+pub fn wrong_copies() -> Vec<WrongCopy> {
+    let planning: [(&'static str, PlanFunction); 19] = [
+        ("dominance-on-clock-alone", plan::<ClockAlone>),
+        ("dominance-on-clock-and-spell", plan::<ClockAndSpell>),
+        ("dominance-with-shift-reversed", plan::<ShiftReversed>),
+        ("parent-last-found", plan::<ParentLastFound>),
+        ("highest-road-on-ties", plan::<HighestRoad>),
+        ("full-when-just-enough", plan::<FullWhenJustEnough>),
+        ("count-without-junction-rank", plan::<CountWithoutJunction>),
+        ("answer-not-counted", plan::<AnswerNotCounted>),
+        ("rest-leaves-spell", plan::<RestLeavesSpell>),
+        ("break-clears-shift", plan::<BreakClearsShift>),
+        ("no-pause-before-driving", plan::<NoPauseBeforeDriving>),
+        ("full-before-looking", full_before_looking),
+        ("always-no-road", always_no_road),
+        ("every-sheet-short", every_sheet_short),
+        ("sheet-unwritten", sheet_unwritten),
+        ("invented-count", invented_count),
+        ("place-of-full-is-count", place_of_full_is_count),
+        ("plan-clears-tail", plan_clears_tail),
+        ("labels-touched-early", labels_touched_early),
+    ];
+    let with_plan = |(name, plan)| WrongCopy {
+        name,
+        operations: Operations { plan, ..DOCUMENT },
+    };
+    let mut copies: Vec<WrongCopy> = planning.map(with_plan).into();
+    copies.extend(other_copies());
+    copies
+}
+
+fn other_copies() -> Vec<WrongCopy> {
+    let with_retime = |name, retime: RetimeFunction| WrongCopy {
+        name,
+        operations: Operations { retime, ..DOCUMENT },
+    };
+    vec![
+        with_retime("retime-copies-clocks", retime_copies_clocks),
+        with_retime("retime-clears-tail", retime_clears_tail),
+        with_retime("retime-short-before-stray", retime_short_before_stray),
+        WrongCopy {
+            name: "audit-ignores-shift",
+            operations: Operations {
+                audit: audit_ignores_shift,
+                ..DOCUMENT
+            },
+        },
+        WrongCopy {
+            name: "name-from-map-start",
+            operations: Operations {
+                name: name_from_map_start,
+                ..DOCUMENT
+            },
+        },
+        WrongCopy {
+            name: "chains-before-lettering",
+            operations: Operations {
+                make_chains: chains_before_lettering,
+                ..DOCUMENT
+            },
+        },
+        WrongCopy {
+            name: "misfit-tells-length-seen",
+            operations: Operations {
+                check_map: misfit_tells_length_seen,
+                ..DOCUMENT
+            },
+        },
+    ]
+}
+
+struct ClockAlone;
+
+impl Planner for ClockAlone {
+    fn dominates(one: &State, other: &State) -> bool {
+        one.junction == other.junction && one.clock <= other.clock
+    }
+}
+
+struct ClockAndSpell;
+
+impl Planner for ClockAndSpell {
+    fn dominates(one: &State, other: &State) -> bool {
+        ClockAlone::dominates(one, other) && one.spell <= other.spell
+    }
+}
+
+struct ShiftReversed;
+
+impl Planner for ShiftReversed {
+    fn dominates(one: &State, other: &State) -> bool {
+        ClockAndSpell::dominates(one, other) && one.shift >= other.shift
+    }
+}
+
+struct ParentLastFound;
+
+impl Planner for ParentLastFound {
+    fn parent(leading: &[(usize, Move)]) -> Option<(usize, Move)> {
+        let (last, _) = *leading.iter().max()?;
+        leading.iter().find(|(index, _)| *index == last).copied()
+    }
+}
+
+struct HighestRoad;
+
+impl Planner for HighestRoad {
+    fn parent(leading: &[(usize, Move)]) -> Option<(usize, Move)> {
+        let (parent, step) = *leading.iter().min()?;
+        let same_kind =
+            |(index, other): &&(usize, Move)| *index == parent && other.kind == step.kind;
+        leading.iter().filter(same_kind).max().copied()
+    }
+}
+
+struct FullWhenJustEnough;
+
+impl Planner for FullWhenJustEnough {
+    fn is_full(labels: usize, fitting: usize) -> bool {
+        labels >= fitting
+    }
+}
+
+struct CountWithoutJunction;
+
+impl Planner for CountWithoutJunction {
+    fn counts(state: &State, answer: &State) -> bool {
+        (state.clock, state.spell, state.shift) <= (answer.clock, answer.spell, answer.shift)
+    }
+}
+
+struct AnswerNotCounted;
+
+impl Planner for AnswerNotCounted {
+    fn counts(state: &State, answer: &State) -> bool {
+        state < answer
+    }
+}
+
+struct RestLeavesSpell;
+
+impl Planner for RestLeavesSpell {
+    fn moves(trip: &Trip, state: &State) -> Vec<(Move, State)> {
+        let mut moves = trip.legal_moves(state);
+        for (_, after) in moves.iter_mut().filter(|(step, _)| step.kind == REST) {
+            after.spell = state.spell;
+        }
+        moves
+    }
+}
+
+struct BreakClearsShift;
+
+impl Planner for BreakClearsShift {
+    fn moves(trip: &Trip, state: &State) -> Vec<(Move, State)> {
+        let mut moves = trip.legal_moves(state);
+        for (_, after) in moves.iter_mut().filter(|(step, _)| step.kind == BREAK) {
+            after.shift = 0;
+        }
+        moves
+    }
+}
+
+struct NoPauseBeforeDriving;
+
+impl Planner for NoPauseBeforeDriving {
+    fn moves(trip: &Trip, state: &State) -> Vec<(Move, State)> {
+        let mut moves = trip.legal_moves(state);
+        moves.retain(|(step, _)| *state != trip.start() || step.kind == DRIVE);
+        moves
+    }
+}
+
+/// Document 01's reply, and the sheet it would write.
+fn right_plan(map: &[u8], order: &[u8], labels: &mut [u32], sheet: &mut [u8]) -> Reply {
+    plan::<Document>(map, order, labels, sheet)
+}
+
+fn accepts(map: &[u8], order: &[u8]) -> bool {
+    Trip::open(map, order).is_ok()
+}
+
+fn full_before_looking(map: &[u8], order: &[u8], labels: &mut [u32], sheet: &mut [u8]) -> Reply {
+    if accepts(map, order) {
+        return Reply::refused(FULL, labels_that_fit(labels.len()) as u64);
+    }
+    right_plan(map, order, labels, sheet)
+}
+
+fn always_no_road(map: &[u8], order: &[u8], labels: &mut [u32], sheet: &mut [u8]) -> Reply {
+    let reply = right_plan(map, order, labels, &mut sheet.to_vec());
+    match reply.number {
+        0 => Reply::refused(NO_ROAD, reply.place),
+        _ => reply,
+    }
+}
+
+fn every_sheet_short(map: &[u8], order: &[u8], labels: &mut [u32], sheet: &mut [u8]) -> Reply {
+    let mut written = sheet.to_vec();
+    let reply = right_plan(map, order, labels, &mut written);
+    match reply.number {
+        0 => Reply::refused(SHORT_SHEET, sheet_bytes(word(&written, 0) as usize) as u64),
+        _ => reply,
+    }
+}
+
+fn sheet_unwritten(map: &[u8], order: &[u8], labels: &mut [u32], sheet: &mut [u8]) -> Reply {
+    right_plan(map, order, labels, &mut sheet.to_vec())
+}
+
+fn invented_count(map: &[u8], order: &[u8], labels: &mut [u32], sheet: &mut [u8]) -> Reply {
+    let mut reply = right_plan(map, order, labels, sheet);
+    if reply.number == 0 {
+        reply.place = labels_that_fit(labels.len()) as u64;
+        put_word(sheet, 16, reply.place);
+    }
+    reply
+}
+
+fn place_of_full_is_count(map: &[u8], order: &[u8], labels: &mut [u32], sheet: &mut [u8]) -> Reply {
+    let reply = right_plan(map, order, labels, sheet);
+    if reply.number != FULL {
+        return reply;
+    }
+    let mut ample = vec![0; 100_000];
+    let counted = right_plan(map, order, &mut ample, &mut vec![0; 100_000]);
+    Reply::refused(FULL, counted.place)
+}
+
+fn plan_clears_tail(map: &[u8], order: &[u8], labels: &mut [u32], sheet: &mut [u8]) -> Reply {
+    let reply = right_plan(map, order, labels, sheet);
+    if reply.number == 0 {
+        clear_tail(sheet);
+    }
+    reply
+}
+
+fn labels_touched_early(map: &[u8], order: &[u8], labels: &mut [u32], sheet: &mut [u8]) -> Reply {
+    if let Some(first) = labels.first_mut() {
+        *first = 0;
+    }
+    right_plan(map, order, labels, sheet)
+}
+
+fn retime_copies_clocks(map: &[u8], order: &[u8], sheet: &[u8], out: &mut [u8]) -> Reply {
+    let reply = retime(map, order, sheet, out);
+    if reply.number == 0 {
+        let records = out.iter_mut().zip(sheet).skip(sheet_bytes(0));
+        records.for_each(|(written, given)| *written = *given);
+    }
+    reply
+}
+
+fn retime_clears_tail(map: &[u8], order: &[u8], sheet: &[u8], out: &mut [u8]) -> Reply {
+    let reply = retime(map, order, sheet, out);
+    if reply.number == 0 {
+        clear_tail(out);
+    }
+    reply
+}
+
+fn retime_short_before_stray(map: &[u8], order: &[u8], sheet: &[u8], out: &mut [u8]) -> Reply {
+    let reply = retime(map, order, sheet, out);
+    match reply.number {
+        STRAY if out.len() < sheet.len() => Reply::refused(SHORT_SHEET, sheet.len() as u64),
+        _ => reply,
+    }
+}
+
+fn clear_tail(sheet: &mut [u8]) {
+    let written = sheet_bytes(word(sheet, 0) as usize);
+    sheet[written..].fill(0);
+}
+
+fn audit_ignores_shift(map: &[u8], order: &[u8], sheet: &[u8]) -> Reply {
+    let mut truly = sheet.to_vec();
+    if retime(map, order, sheet, &mut truly).number != 0 {
+        return audit(map, order, sheet);
+    }
+    let mut given = Sheet::read(sheet).expect("a sheet that was retimed");
+    given.shift = word(&truly, 12);
+    audit(map, order, &given.bytes())
+}
+
+fn name_from_map_start(map: &[u8], junction: u32) -> NameAnswer {
+    let (reply, offset, length) = name(map, junction);
+    match reply.number {
+        0 => (reply, offset - 16, length),
+        _ => (reply, offset, length),
+    }
+}
+
+fn chains_before_lettering(map: &mut [u8]) -> Reply {
+    let reply = make_chains(map);
+    if reply.number == BAD_LETTERING {
+        put_word(map, 16, 0);
+    }
+    reply
+}
+
+fn misfit_tells_length_seen(map: &[u8]) -> Reply {
+    let reply = check_map(map);
+    match reply.number {
+        MISFIT => Reply::refused(MISFIT, map.len() as u64),
+        _ => reply,
+    }
+}
