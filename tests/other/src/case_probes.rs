@@ -34,26 +34,32 @@ pub fn label_count(reply: &Reply) -> Option<usize> {
 
 /// Every call for a case. `trusted` finds N and M, around which the lent lengths are chosen.
 pub fn probes(trusted: &Operations, case: &Case, random: &mut Random) -> Vec<Probe> {
-    let map = &case.run.map;
+    let mut probes = Vec::new();
+    for map in case.spoilt_maps.iter().chain([&case.run.map]) {
+        probes.extend(map_probes(random, map));
+    }
+    for timing in &case.timings {
+        let run = Run {
+            map: case.run.map.clone(),
+            order: timing.order.clone(),
+        };
+        probes.extend(sheet_probes(random, &run, &timing.sheet));
+    }
+    for run in case.runs() {
+        probes.extend(plan_probes(trusted, run, random));
+    }
+    probes
+}
+
+fn map_probes(random: &mut Random, map: &[u8]) -> Vec<Probe> {
     let mut probes = vec![
-        Probe::CheckMap { map: map.clone() },
-        Probe::MakeChains { map: map.clone() },
+        Probe::CheckMap { map: map.to_vec() },
+        Probe::MakeChains { map: map.to_vec() },
         Probe::MakeChains {
             map: scrambled_links(random, map),
         },
     ];
     probes.extend(name_probes(random, map));
-    probes.extend(plan_probes(trusted, &case.run, random));
-    for timing in &case.timings {
-        let run = Run {
-            map: map.clone(),
-            order: timing.order.clone(),
-        };
-        probes.extend(sheet_probes(random, &run, &timing.sheet));
-    }
-    if let Some(easier) = &case.easier {
-        probes.extend(plan_probes(trusted, easier, random));
-    }
     probes
 }
 

@@ -12,7 +12,9 @@ use crate::words::word;
 
 /// The first law that a case breaks, in words.
 pub fn obeyed(operations: &Operations, case: &Case, random: &mut Random) -> Result<(), String> {
-    label_space_is_free(operations, &case.run, random)?;
+    for run in case.runs() {
+        label_space_is_free(operations, run, random)?;
+    }
     match &case.easier {
         Some(easier) => nothing_worse(operations, &case.run, easier, random),
         None => Ok(()),

@@ -1,7 +1,7 @@
 //! Planning, written to follow document 01's words and not to be fast: all reachable states are
 //! enumerated first, and everything else is said about that set.
 
-use std::collections::BTreeSet;
+use std::collections::{BTreeSet, VecDeque};
 
 use crate::moves::{Move, State, Trip};
 use crate::reply::*;
@@ -72,6 +72,7 @@ fn planned<P: Planner>(
     Ok(Reply::success(count, answer.clock))
 }
 
+/// The start and all that legal moves lead to from a reachable state.
 pub fn reachable_states<P: Planner>(trip: &Trip) -> BTreeSet<State> {
     spread::<P>(trip, usize::MAX)
 }
@@ -81,17 +82,17 @@ pub fn reaches_at_most(trip: &Trip, most: usize) -> bool {
     spread::<Document>(trip, most).len() <= most
 }
 
-/// The reachable states; once there are more than `most`, only some of them.
+/// The reachable states, breadth first; once there are more than `most`, only some of them.
 fn spread<P: Planner>(trip: &Trip, most: usize) -> BTreeSet<State> {
     let mut seen = BTreeSet::from([trip.start()]);
-    let mut waiting = vec![trip.start()];
-    while let Some(state) = waiting.pop() {
+    let mut waiting = VecDeque::from([trip.start()]);
+    while let Some(state) = waiting.pop_front() {
         if seen.len() > most {
             break;
         }
         for (_, after) in P::moves(trip, &state) {
             if seen.insert(after) {
-                waiting.push(after);
+                waiting.push_back(after);
             }
         }
     }

@@ -50,10 +50,7 @@ pub fn summary(seed: u64, count: u64) -> Summary {
             summary.calls += 1;
         }
         summary.pairs += u64::from(case.easier.is_some());
-        for run in [Some(&case.run), case.easier.as_ref()]
-            .into_iter()
-            .flatten()
-        {
+        for run in case.runs() {
             summary.add_plan(random, run);
         }
     }

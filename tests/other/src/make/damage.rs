@@ -41,7 +41,10 @@ fn damage_junction(random: &mut Random, map: &mut Map) {
     match random.below(4) {
         0 => junction.first = random.pick(&[roads, roads + 1, ALL_BITS]),
         1 => junction.car_park = random.pick(&[0, 1, 2, 256, ALL_BITS]),
-        2 => junction.name_length = random.pick(&[0, 1, 32, 33, names, names + 1, ALL_BITS]),
+        2 => {
+            junction.name_start = 0;
+            junction.name_length = random.pick(&[0, 1, 32, 33, names, names + 1, ALL_BITS]);
+        }
         _ => {
             let last_start = names.saturating_sub(junction.name_length);
             let wrapping = ALL_BITS - junction.name_length.min(ALL_BITS - 1) + 1;

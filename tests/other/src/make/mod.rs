@@ -26,11 +26,23 @@ pub struct Case {
     pub run: Run,
     /// Sheets to retime and audit, each with its own order.
     pub timings: Vec<Timing>,
+    /// Maps, most of them spoilt, to check, to chain and to find names in.
+    pub spoilt_maps: Vec<Vec<u8>>,
     /// A second run that makes nothing worse than `run`, which is then accepted (demand 3).
     pub easier: Option<Run>,
 }
 
+impl Case {
+    pub fn runs(&self) -> impl Iterator<Item = &Run> {
+        [Some(&self.run), self.easier.as_ref()]
+            .into_iter()
+            .flatten()
+    }
+}
+
 const TIMINGS: usize = 4;
+const SPOILT_ORDERS: usize = 4;
+const SPOILT_MAPS: usize = 8;
 const MOST_DRAWS: usize = 12;
 
 /// The case of a seed and a number: each can be made again on its own.
@@ -90,12 +102,18 @@ fn run_of(trip: &Trip) -> Run {
 }
 
 fn sound_case(random: &mut Random, trip: &Trip) -> Case {
-    let timings = (0..TIMINGS)
+    let mut timings: Vec<Timing> = (0..TIMINGS + SPOILT_ORDERS)
         .map(|_| sheets::random_timing(random, trip))
         .collect();
+    for timing in &mut timings[TIMINGS..] {
+        timing.order = damage::damaged_order(random, &trip.order.bytes());
+    }
     Case {
         run: run_of(trip),
         timings,
+        spoilt_maps: (0..SPOILT_MAPS)
+            .map(|_| damage::damaged_map(random, &trip.map))
+            .collect(),
         easier: None,
     }
 }
@@ -107,6 +125,7 @@ fn pair_case(random: &mut Random, trip: &Trip) -> Case {
     Case {
         run: run_of(&trip),
         timings: Vec::new(),
+        spoilt_maps: Vec::new(),
         easier: Some(run_of(&easier)),
     }
 }
@@ -122,9 +141,6 @@ fn damaged_order_case(random: &mut Random, trip: &Trip) -> Case {
     let mut case = sound_case(random, trip);
     case.run.order = damage::damaged_order(random, &case.run.order);
     tame_run(&mut case.run);
-    for timing in &mut case.timings {
-        timing.order.clone_from(&case.run.order);
-    }
     case
 }
 
