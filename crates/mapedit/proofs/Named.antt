@@ -11,11 +11,11 @@ use Rattle.replies.specs.declared.Refusal.{Refusal}
 use Rattle.replies.specs.First.{Test, firstOf, _at_, NoneFits, Refuses}
 use Rattle.replies.specs.Told.{succeeded, refusedAt, toldRefusal}
 use Rattle.replies.proofs.First.{none-fits, Numbered, none-fitted, stops-at, passed-over, refusal-number}
-use Rattle.roadmap.specs.Format.{junctionCount, namesAt, nameStart, nameLength, lengthNeeded}
+use Rattle.roadmap.specs.Format.{junctionCount, nameLength, lengthNeeded}
 use Rattle.mapcheck.specs.MapCheck.{outside, mapTests, AcceptedMap}
 use Rattle.mapcheck.proofs.Counts.{placed-none, Within, within}
 use Rattle.mapcheck.proofs.Sound.{sound-map}
-use Rattle.mapedit.specs.Name.{unknownName, nameReply, namePart}
+use Rattle.mapedit.specs.Name.{unknownName, nameReply, nameAt, namePart}
 
 module _ (map : List ℕ) (junction : ℕ) where
   -- what refuses the map refuses the name
@@ -48,12 +48,11 @@ module _ (map : List ℕ) (junction : ℕ) where
       (lit≤ tt, (lit≤ tt, (lit≤ tt, (lit≤ tt, (lit≤ tt, (lit≤ tt, (lit≤ tt, (lit≤ tt, (lit≤ tt, tt)))))))))
 
   -- what a reply of number 0 says
-  pub record Named (length : ℕ) : Type 0 where
+  pub record Named : Type 0 where
     pub accepted : AcceptedMap map
     pub known : Within 1 (junctionCount map) junction
-    pub is-length : length ≡ nameLength map junction
     -- the name ends within the map
-    pub inside : namesAt map + nameStart map junction + length ≤ lengthNeeded map
+    pub inside : nameAt map junction + nameLength map junction ≤ lengthNeeded map
 
   accepted-part : NoneFits nameTests → AcceptedMap map
   accepted-part none =
@@ -61,22 +60,26 @@ module _ (map : List ℕ) (junction : ℕ) where
       let content = sizes .1 .1 in
       (none .0, (none .1 .0, (sizes .0, (sizes .1 .0, (content .0, (content .1 .0, (content .1 .1 .0, (content .1 .1 .1 .0, tt))))))))
 
-  pub reply-named : {length : ℕ} → succeeded length 0 ≡ nameReply map junction → Named length
+  pub number-named : nameReply map junction .number ≡ 0 → Named
   unfolding nameReply
-  reply-named {length} told =
-      let none = none-fitted nameTests (succeeded (nameLength map junction) 0) numbered (sym (ap (λ (r : Reply). r .number) told)) in
+  number-named zero =
+      let none = none-fitted nameTests (succeeded (nameLength map junction) 0) numbered zero in
       let accepted = accepted-part none in
       let known : Within 1 (junctionCount map) junction = within (placed-none junction (none .1 .1 .1 .1 .1 .1 .1 .1 .0)) in
-      let is-length : length ≡ nameLength map junction = ap (λ (r : Reply). r .place) (told ∙ sym (named accepted (known .above) (known .below))) in
       let inside = sound-map map accepted .junctions junction (known .above) (known .below) .inside in
-      record { accepted = accepted; known = known; is-length = is-length; inside = omega arith }
+      record { accepted = accepted; known = known; inside = omega arith }
+
+  pub length-named : {length : ℕ} → succeeded length 0 ≡ nameReply map junction → length ≡ nameLength map junction
+  length-named told =
+      let named-so = number-named (sym (ap (λ (r : Reply). r .number) told)) in
+      ap (λ (r : Reply). r .place) (told ∙ sym (named (named-so .accepted) (named-so .known .above) (named-so .known .below)))
 
   -- the part where the reply does not refuse
   pub part-named : {length : ℕ} (from end : ℕ) → succeeded length 0 ≡ nameReply map junction
-      → from ≡ namesAt map + nameStart map junction → end ≡ from + length → take (end - from) (drop from map) ≡ namePart map junction
+      → from ≡ nameAt map junction → end ≡ from + length → take (end - from) (drop from map) ≡ namePart map junction
   unfolding namePart
   part-named {length} from end told is-from is-end =
-      let count : end - from ≡ nameLength map junction = omega (arith, reply-named told .is-length) in
+      let count : end - from ≡ nameLength map junction = omega (arith, length-named told) in
       rw (← told, count, is-from)
 
   -- and where it does

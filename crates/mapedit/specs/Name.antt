@@ -20,9 +20,13 @@ unfoldable pub nameReply : List ℕ → ℕ → Reply
 nameReply map junction =
     firstOf (mapTests map ++ ((20 at unknownName map junction) ∷ [])) (succeeded (nameLength map junction) 0)
 
+-- where in the map the junction's name starts
+abbrev pub nameAt : List ℕ → ℕ → ℕ
+nameAt map junction = namesAt map + nameStart map junction
+
 -- the part of the map that spells the junction's name, where the reply's number is 0; else empty
 unfoldable pub namePart : List ℕ → ℕ → List ℕ
 namePart map junction =
     pick (eqb (nameReply map junction .number) 0)
-    (take (nameLength map junction) (drop (namesAt map + nameStart map junction) map))
+    (take (nameLength map junction) (drop (nameAt map junction) map))
     []

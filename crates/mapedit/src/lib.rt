@@ -3,7 +3,7 @@ ghost use mathlib.Core.Path.{_≡_};
 ghost use Prim.Native.Nat.{ℕ, _+_, _*_, _-_, _≤_};
 ghost use Rattle.replies.specs.Told.{toldName};
 ghost use Rattle.roadmap.specs.Format.{HasSizes, junctionAt};
-ghost use Rattle.mapedit.specs.Name.{nameReply, namePart};
+ghost use Rattle.mapedit.specs.Name.{nameReply, nameAt, namePart};
 ghost use Rattle.mapedit.specs.Chaining.{chained, ChainMaking};
 ghost use Rattle.mapedit.specs.Passes.{cleared, linkedBefore, FromKnown};
 use replies::Check;
@@ -27,15 +27,23 @@ pub fn name_reply(map: &[u8], junction: u32) -> NameReply
     NameReply::Named(roadmap::name_length(map, sizes, junction) as usize)
 }
 
+// Where in the map the junction's name starts, once its reply does not refuse.
+pub fn name_place(map: &[u8], junction: u32) -> usize
+    requires { ⌜ nameReply (now map) junction .number ≡ 0 ⌝ }
+    ensures { λ r. ⌜ r ≡ nameAt (now (map .entry)) junction ⌝ }
+{
+    let sizes = roadmap::sizes_of(map);
+    let names = 16 + 16 * (sizes.junctions as usize) + 20 * (sizes.roads as usize);
+    names + (roadmap::name_start(map, sizes, junction) as usize)
+}
+
 // The part of the map that spells the junction's name; empty where the reply refuses.
 pub fn name(map: &[u8], junction: u32) -> &[u8]
     ensures { λ r. ⌜ now r ≡ namePart (now (map .entry)) junction ⌝ }
 {
     let reply = name_reply(map, junction);
     if let NameReply::Named(length) = reply {
-        let sizes = roadmap::sizes_of(map);
-        let names = 16 + 16 * (sizes.junctions as usize) + 20 * (sizes.roads as usize);
-        let from = names + (roadmap::name_start(map, sizes, junction) as usize);
+        let from = name_place(map, junction);
         let end = from + length;
         return &map[from..end];
     }

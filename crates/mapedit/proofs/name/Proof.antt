@@ -1,14 +1,15 @@
 -- The name that the reply measures lies within the map.
 use borrow.Author.Needs.{needs}
-use mathlib.Core.Path.{_≡_, subst}
-use Prim.Native.Nat.{ℕ, _+_, _*_}
+use mathlib.Core.Path.{_≡_, sym, ap, subst}
+use Prim.Native.Nat.{_+_, _≤_}
 use native.Mathlib.Omega.{arith}
+use lib.ListN.{length}
+use Rattle.replies.specs.declared.Reply.{Reply}
 use Rattle.replies.specs.declared.NameReply.{NameReply}
 use Rattle.replies.specs.Told.{succeeded, toldName}
-use Rattle.roadmap.specs.Format.{HasSizes}
 use Rattle.mapedit.specs.Name.{nameReply}
-use Rattle.mapcheck.proofs.Tried.{has-header, has-sizes, accepted-sizes}
-use Rattle.mapedit.proofs.Named.{Named, reply-named, part-named, part-refused}
+use Rattle.mapcheck.proofs.Tried.{has-whole, accepted-sizes}
+use Rattle.mapedit.proofs.Named.{number-named, length-named, part-named, part-refused}
 use Rattle.mapedit.proofs.name.Statement.{statement}
 use Rattle.mapedit.proofs.name.Tie as tie
 
@@ -20,40 +21,20 @@ told c =
     let args = replied .before .before .args in
     subst (λ (r : NameReply). toldName r ≡ nameReply (args .map .now) (args .junction)) (c .before .reply .given .1) (replied .name-reply .ensures)
 
-spelled : (c : tie.After-known-told) →
-    let args = c .before .before .before .before .before .args in
-    Named (args .map .now) (args .junction) (c .before .reply .given .0 .0)
-spelled c = reply-named _ _ (told c)
+name-place-requires : tie.Need-name-place-requires
+name-place-requires c κs = sym (ap (λ (r : Reply). r .number) (told c))
 
-sized : (c : tie.After-sizes-of) →
-    HasSizes (c .before .before .before .before .before .before .args .map .now) (c .sizes-of .result)
-sized c = has-sizes _ _ (accepted-sizes _ (spelled (c .before) .accepted)) (c .sizes-of .ensures)
-
-sizes-of-requires : tie.Need-sizes-of-requires
-sizes-of-requires c κs = has-header _ (accepted-sizes _ (spelled c .accepted))
-
-name-start-requires : tie.Need-name-start-requires
-name-start-requires c κs =
-    let read = c .before .before in
-    let known = spelled (read .before) .known in
-    (sized read, (known .above, omega arith))
-
-add-end : tie.Need-add-end
-add-end c =
-    let read = c .before .before .before in
-    omega (arith, sized read, spelled (read .before) .inside)
-
-part-result-end : tie.Need-part-result-end
-part-result-end c =
-    let read = c .before .before .before in
-    omega (arith, sized read, spelled (read .before) .inside)
+-- the name ends within the map
+within-map : (c : tie.After-name-place) →
+    c .name-place .result + c .before .before .reply .given .0 .0 ≤ length (c .before .before .before .before .before .before .args .map .now)
+within-map c =
+    let named-so = number-named _ _ (sym (ap (λ (r : Reply). r .number) (told (c .before)))) in
+    omega (arith, c .name-place .ensures, length-named _ _ (told (c .before)), named-so .inside, has-whole _ (accepted-sizes _ (named-so .accepted)))
 
 returns : tie.Need-returns
 returns c =
-    let read = c .before .before .before .before in
-    let sizes = read .sizes-of .result in
-    let from : ℕ = 16 + 16 * sizes .junctions + 20 * sizes .roads + c .before .name-start .result in
-    part-named _ _ from (from + read .before .before .reply .given .0 .0) (told (read .before)) (omega (arith, sized read)) (omega arith)
+    let placed = c .before in
+    part-named _ _ (placed .name-place .result) (placed .name-place .result + placed .before .before .reply .given .0 .0) (told (placed .before)) (placed .name-place .ensures) (omega arith)
 
 returns-2 : tie.Need-returns-2
 returns-2 c =
@@ -68,20 +49,11 @@ name-spec =
     (tie.spec
     (λ c κs. search needs)
     (λ c. search needs)
-    sizes-of-requires
+    name-place-requires
+    (λ c. omega (arith, within-map c))
     (λ c. search needs)
     (λ c. search needs)
-    (λ c. search needs)
-    (λ c. search needs)
-    (λ c. search needs)
-    (λ c. search needs)
-    name-start-requires
-    (λ c. search needs)
-    (λ c. search needs)
-    add-end
-    (λ c. search needs)
-    (λ c. search needs)
-    part-result-end
+    within-map
     returns
     (λ c. search needs)
     (λ c. search needs)
