@@ -1,0 +1,115 @@
+-- Each call from its operation's contract: where the reply has no room, and where it has. Assumes nothing.
+use mathlib.Core.Path.{_≡_, _∙_, refl, sym, ap}
+use mathlib.Core.Bool.{Bool, true, false}
+use mathlib.Core.List.{List, []}
+use Prim.Native.Nat.{ℕ, _≤_, _<_}
+use native.Mathlib.Omega.{arith}
+use borrow.Author.Tests.{ne-eqb}
+use lib.Dec.{eqb}
+use lib.ListN.{length, getD, set, take, drop, length-set}
+use lib.Seq.{getD-set-same, getD-set-other}
+use Rattle.replies.specs.declared.Check.{Check}
+use Rattle.replies.specs.declared.Planning.{Planning}
+use Rattle.replies.specs.declared.Refusal.{Refusal}
+use Rattle.replies.specs.declared.Reply.{Reply}
+use Rattle.replies.specs.declared.Timing.{Timing}
+use Rattle.replies.specs.First.{firstOf}
+use Rattle.replies.specs.Told.{succeeded, toldCheck, toldPlan, toldRefusal, toldTiming}
+use Rattle.replies.proofs.First.{refusal-number}
+use Rattle.roadmap.specs.Format.{nameLength}
+use Rattle.mapcheck.specs.MapCheck.{mapTests}
+use Rattle.mapedit.specs.Name.{nameReply, nameAt, namePart}
+use Rattle.mapedit.specs.Chaining.{ChainMaking}
+use Rattle.mapedit.specs.Pick.{pick}
+use Rattle.mapedit.proofs.Named.{length-named}
+use Rattle.retiming.specs.Retiming.{auditReply}
+use Rattle.retiming.specs.Parts.{Retimed}
+use Rattle.planner.specs.Planned.{Planned}
+use Rattle.trunk.specs.Written.{replyPut, partPut}
+use Rattle.trunk.specs.Calls.{MapCheckCall, PlanCall, RetimeCall, AuditCall, NameCall, ChainsCall, namePut}
+
+-- nothing is written
+module _ {reply : List ℕ} (short : length reply < 3) where
+  pub check-short : (map : List ℕ) → MapCheckCall map reply reply
+  check-short map = record { short = λ _. refl; told = λ room. absurd (omega arith) }
+
+  pub plan-short : (map order words sheet : List ℕ) → PlanCall map order words words sheet sheet reply reply
+  plan-short map order words sheet = record { short = λ _. (refl, refl, refl); told = λ room. absurd (omega arith) }
+
+  pub retime-short : (map order sheet out : List ℕ) → RetimeCall map order sheet out out reply reply
+  retime-short map order sheet out = record { short = λ _. (refl, refl); told = λ room. absurd (omega arith) }
+
+  pub audit-short : (map order sheet : List ℕ) → AuditCall map order sheet reply reply
+  audit-short map order sheet = record { short = λ _. refl; told = λ room. absurd (omega arith) }
+
+  pub name-short : (map : List ℕ) (junction : ℕ) (part : List ℕ) → NameCall map junction reply reply part part
+  name-short map junction part =
+      record { short = λ _. (refl, refl); short-part = λ _. (refl, refl); told = λ room _. absurd (omega arith) }
+
+  pub chains-short : (map : List ℕ) → ChainsCall map map reply reply
+  chains-short map = record { short = λ _. (refl, refl); told = λ room. absurd (omega arith) }
+
+pub name-short-part : {part : List ℕ} → length part < 2 → (map : List ℕ) (junction : ℕ) (reply : List ℕ) → NameCall map junction reply reply part part
+name-short-part short map junction reply =
+    record { short = λ _. (refl, refl); short-part = λ _. (refl, refl); told = λ _ room. absurd (omega arith) }
+
+-- the reply is written
+module _ {reply reply′ : List ℕ} {told : Reply} (room : 3 ≤ length reply) (written : reply′ ≡ replyPut reply told) where
+  pub check-told : (map : List ℕ) → told ≡ firstOf (mapTests map) (succeeded 0 0) → MapCheckCall map reply reply′
+  check-told map is = record { short = λ short. absurd (omega arith); told = λ _. written ∙ ap (replyPut reply) is }
+
+  pub plan-told : {map order words words′ sheet sheet′ : List ℕ} {answer : Planning} → told ≡ toldPlan answer
+      → Planned map order words words′ sheet sheet′ answer → PlanCall map order words words′ sheet sheet′ reply reply′
+  plan-told {answer = answer} is planned =
+      record { short = λ short. absurd (omega arith); told = λ _. (answer, planned, written ∙ ap (replyPut reply) is) }
+
+  pub retime-told : {map order sheet out out′ : List ℕ} {answer : Timing} → told ≡ toldTiming answer
+      → Retimed map order sheet out out′ answer → RetimeCall map order sheet out out′ reply reply′
+  retime-told {answer = answer} is retimed =
+      record { short = λ short. absurd (omega arith); told = λ _. (answer, retimed, written ∙ ap (replyPut reply) is) }
+
+  pub audit-told : (map order sheet : List ℕ) → told ≡ auditReply map order sheet → AuditCall map order sheet reply reply′
+  audit-told map order sheet is = record { short = λ short. absurd (omega arith); told = λ _. written ∙ ap (replyPut reply) is }
+
+  pub name-told : {map : List ℕ} {junction : ℕ} {part part′ : List ℕ} → 2 ≤ length part → told ≡ nameReply map junction → part′ ≡ namePut map junction part
+      → NameCall map junction reply reply′ part part′
+  name-told enough is placed =
+      record {
+        short = λ short. absurd (omega arith);
+        short-part = λ short. absurd (omega arith);
+        told = λ _ _. (written ∙ ap (replyPut reply) is, placed);
+      }
+
+  pub chains-told : {map map′ : List ℕ} {answer : Check} → told ≡ toldCheck answer → ChainMaking map map′ answer → ChainsCall map map′ reply reply′
+  chains-told {answer = answer} is made =
+      record { short = λ short. absurd (omega arith); told = λ _. (answer, made, written ∙ ap (replyPut reply) is) }
+
+-- the place and the length of a name
+module _ (map : List ℕ) (junction : ℕ) (part : List ℕ) where
+  pub put-named : {from length : ℕ} → succeeded length 0 ≡ nameReply map junction → from ≡ nameAt map junction → partPut part from length ≡ namePut map junction part
+  put-named {from} {length} told is = rw (← told, is, length-named map junction told)
+
+  pub put-refused : (why : Refusal) → toldRefusal why ≡ nameReply map junction → partPut part 0 0 ≡ namePut map junction part
+  put-refused why told = rw (← told, ne-eqb (toldRefusal why .number) 0 (λ e. omega (arith, refusal-number why)))
+
+-- what stands at the numbers of a part
+module _ (part : List ℕ) (from size : ℕ) (room : 2 ≤ length part) where
+  part-from : getD (partPut part from size) 0 0 ≡ from
+  part-from = getD-set-other (set part 0 from) 1 0 size 0 (λ e. omega arith) ∙ getD-set-same part 0 from 0 (omega arith)
+
+  part-length : getD (partPut part from size) 1 0 ≡ size
+  part-length = getD-set-same (set part 0 from) 1 size 0 (simp length-set (omega arith))
+
+spells-so : (named : Bool) (map part : List ℕ) (from size : ℕ) → 2 ≤ length part
+    → let told = pick named (partPut part from size) (partPut part 0 0) in
+    take (getD told 1 0) (drop (getD told 0 0) map) ≡ pick named (take size (drop from map)) []
+spells-so true map part from size room = rw (part-from part from size room, part-length part from size room)
+spells-so false map part from size room = rw (part-from part 0 0 room, part-length part 0 0 room)
+
+-- the place and length told are the part of the map that the operation of the name returns
+pub part-spells : (map : List ℕ) (junction : ℕ) (part : List ℕ) → 2 ≤ length part
+    → let told = namePut map junction part in
+    take (getD told 1 0) (drop (getD told 0 0) map) ≡ namePart map junction
+unfolding namePart
+part-spells map junction part room =
+    spells-so (eqb (nameReply map junction .number) 0) map part (nameAt map junction) (nameLength map junction) room

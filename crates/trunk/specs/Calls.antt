@@ -1,0 +1,58 @@
+-- What each call of the library owes: the reply, and every lent byte and word afterwards. Where the lent reply has no room for three
+-- numbers, nothing at all is written. Assumes nothing.
+use mathlib.Core.Path.{_≡_}
+use mathlib.Core.List.{List}
+use Prim.Native.Nat.{ℕ, _≤_, _<_}
+use lib.Dec.{eqb}
+use lib.ListN.{length}
+use Rattle.replies.specs.declared.Check.{Check}
+use Rattle.replies.specs.declared.Planning.{Planning}
+use Rattle.replies.specs.declared.Timing.{Timing}
+use Rattle.replies.specs.First.{firstOf}
+use Rattle.replies.specs.Told.{succeeded, toldCheck, toldPlan, toldTiming}
+use Rattle.roadmap.specs.Format.{nameLength}
+use Rattle.mapcheck.specs.MapCheck.{mapTests}
+use Rattle.mapedit.specs.Name.{nameReply, nameAt}
+use Rattle.mapedit.specs.Chaining.{ChainMaking}
+use Rattle.mapedit.specs.Pick.{pick}
+use Rattle.retiming.specs.Retiming.{auditReply}
+use Rattle.retiming.specs.Parts.{Retimed}
+use Rattle.planner.specs.Planned.{Planned}
+use Rattle.trunk.specs.Written.{replyPut, partPut}
+
+pub record MapCheckCall (map reply reply′ : List ℕ) : Type 0 where
+  pub short : length reply < 3 → reply′ ≡ reply
+  pub told : 3 ≤ length reply → reply′ ≡ replyPut reply (firstOf (mapTests map) (succeeded 0 0))
+
+pub record PlanCall (map order words words′ sheet sheet′ reply reply′ : List ℕ) : Type 0 where
+  pub short : length reply < 3 → (words′ ≡ words) × (sheet′ ≡ sheet) × (reply′ ≡ reply)
+  pub told : 3 ≤ length reply
+      → (answer : Planning) × Planned map order words words′ sheet sheet′ answer × (reply′ ≡ replyPut reply (toldPlan answer))
+
+pub record RetimeCall (map order sheet out out′ reply reply′ : List ℕ) : Type 0 where
+  pub short : length reply < 3 → (out′ ≡ out) × (reply′ ≡ reply)
+  pub told : 3 ≤ length reply
+      → (answer : Timing) × Retimed map order sheet out out′ answer × (reply′ ≡ replyPut reply (toldTiming answer))
+
+pub record AuditCall (map order sheet reply reply′ : List ℕ) : Type 0 where
+  pub short : length reply < 3 → reply′ ≡ reply
+  pub told : 3 ≤ length reply → reply′ ≡ replyPut reply (auditReply map order sheet)
+
+-- the name's place in the map and its length, 0 and 0 when refused
+abbrev pub namePut : List ℕ → ℕ → List ℕ → List ℕ
+namePut map junction part =
+    pick (eqb (nameReply map junction .number) 0)
+    (partPut part (nameAt map junction) (nameLength map junction))
+    (partPut part 0 0)
+
+-- a lent part with no room for two numbers is as a reply with no room for three
+pub record NameCall (map : List ℕ) (junction : ℕ) (reply reply′ part part′ : List ℕ) : Type 0 where
+  pub short : length reply < 3 → (reply′ ≡ reply) × (part′ ≡ part)
+  pub short-part : length part < 2 → (reply′ ≡ reply) × (part′ ≡ part)
+  pub told : 3 ≤ length reply → 2 ≤ length part
+      → (reply′ ≡ replyPut reply (nameReply map junction)) × (part′ ≡ namePut map junction part)
+
+pub record ChainsCall (map map′ reply reply′ : List ℕ) : Type 0 where
+  pub short : length reply < 3 → (map′ ≡ map) × (reply′ ≡ reply)
+  pub told : 3 ≤ length reply
+      → (answer : Check) × ChainMaking map map′ answer × (reply′ ≡ replyPut reply (toldCheck answer))

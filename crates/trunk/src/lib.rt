@@ -1,0 +1,133 @@
+// Every operation as a function that C and Rust can call. include/trunk.h describes them to callers.
+// A slice is a pointer and a length there. The reply is written as three numbers to a lent run; who
+// has no room for it gets nothing changed.
+ghost use mathlib.Core.Path.{_≡_};
+ghost use Prim.Native.Nat.{_≤_};
+ghost use lib.ListN.{length};
+ghost use Rattle.replies.specs.Told.{toldName};
+ghost use Rattle.mapedit.specs.Name.{nameReply};
+ghost use Rattle.trunk.specs.Written.{replyPut};
+ghost use Rattle.trunk.specs.Calls.{MapCheckCall, PlanCall, RetimeCall, AuditCall, NameCall, ChainsCall, namePut};
+use replies::NameReply;
+use replies::Reply;
+
+// What a reply, and the place of a name, take of a lent run.
+const REPLY_NUMBERS: usize = 3;
+
+const PART_NUMBERS: usize = 2;
+
+fn put_reply(lent: &mut [u64], reply: Reply)
+    requires { ⌜ 3 ≤ length (now lent) ⌝ }
+    ensures { λ _. ⌜ now (lent .exit) ≡ replyPut (now (lent .entry)) reply ⌝ }
+{
+    lent[0] = reply.number as u64;
+    lent[1] = reply.place as u64;
+    lent[2] = reply.arrival as u64;
+}
+
+// Map check.
+#[no_mangle]
+pub extern "C" fn trunk_check_map(map: &[u8], reply: &mut [u64])
+    ensures { λ _. ⌜ MapCheckCall (now (map .entry)) (now (reply .entry)) (now (reply .exit)) ⌝ }
+{
+    if reply.len() < REPLY_NUMBERS {
+        return;
+    }
+    let told = mapcheck::check_map(map).reply();
+    put_reply(reply, told);
+}
+
+// Planning.
+#[no_mangle]
+pub extern "C" fn trunk_plan(
+    map: &[u8],
+    order: &[u8],
+    words: &mut [u32],
+    sheet: &mut [u8],
+    reply: &mut [u64],
+)
+    ensures { λ _. ⌜ PlanCall (now (map .entry)) (now (order .entry)) (now (words .entry)) (now (words .exit)) (now (sheet .entry)) (now (sheet .exit)) (now (reply .entry)) (now (reply .exit)) ⌝ }
+{
+    if reply.len() < REPLY_NUMBERS {
+        return;
+    }
+    let told = planner::plan(map, order, words, sheet).reply();
+    put_reply(reply, told);
+}
+
+// Retiming.
+#[no_mangle]
+pub extern "C" fn trunk_retime(
+    map: &[u8],
+    order: &[u8],
+    sheet: &[u8],
+    out: &mut [u8],
+    reply: &mut [u64],
+)
+    ensures { λ _. ⌜ RetimeCall (now (map .entry)) (now (order .entry)) (now (sheet .entry)) (now (out .entry)) (now (out .exit)) (now (reply .entry)) (now (reply .exit)) ⌝ }
+{
+    if reply.len() < REPLY_NUMBERS {
+        return;
+    }
+    let told = retiming::retime(map, order, sheet, out).reply();
+    put_reply(reply, told);
+}
+
+// Audit.
+#[no_mangle]
+pub extern "C" fn trunk_audit(map: &[u8], order: &[u8], sheet: &[u8], reply: &mut [u64])
+    ensures { λ _. ⌜ AuditCall (now (map .entry)) (now (order .entry)) (now (sheet .entry)) (now (reply .entry)) (now (reply .exit)) ⌝ }
+{
+    if reply.len() < REPLY_NUMBERS {
+        return;
+    }
+    let told = retiming::audit(map, order, sheet).reply();
+    put_reply(reply, told);
+}
+
+// Where in the map the name stands that the reply tells, and how long it is.
+fn put_name(map: &[u8], junction: u32, told: NameReply, part: &mut [u64])
+    requires { ⌜ toldName told ≡ nameReply (now map) junction ⌝ }
+    requires { ⌜ 2 ≤ length (now part) ⌝ }
+    ensures { λ _. ⌜ now (part .exit) ≡ namePut (now (map .entry)) junction (now (part .entry)) ⌝ }
+{
+    match told {
+        NameReply::Named(length) => {
+            part[0] = mapedit::name_place(map, junction) as u64;
+            part[1] = length as u64;
+        }
+        NameReply::Refused(_why) => {
+            part[0] = 0;
+            part[1] = 0;
+        }
+    }
+}
+
+// Name. An exported function cannot return a part of the map, so it tells where that part is.
+#[no_mangle]
+pub extern "C" fn trunk_name(map: &[u8], junction: u32, reply: &mut [u64], part: &mut [u64])
+    ensures { λ _. ⌜ NameCall (now (map .entry)) junction (now (reply .entry)) (now (reply .exit)) (now (part .entry)) (now (part .exit)) ⌝ }
+{
+    if reply.len() < REPLY_NUMBERS {
+        return;
+    }
+    if part.len() < PART_NUMBERS {
+        return;
+    }
+    let answer = mapedit::name_reply(map, junction);
+    let told = answer.reply();
+    put_reply(reply, told);
+    put_name(map, junction, answer, part);
+}
+
+// Chain making.
+#[no_mangle]
+pub extern "C" fn trunk_make_chains(map: &mut [u8], reply: &mut [u64])
+    ensures { λ _. ⌜ ChainsCall (now (map .entry)) (now (map .exit)) (now (reply .entry)) (now (reply .exit)) ⌝ }
+{
+    if reply.len() < REPLY_NUMBERS {
+        return;
+    }
+    let told = mapedit::make_chains(map).reply();
+    put_reply(reply, told);
+}
