@@ -1,0 +1,112 @@
+/* The trunk lorry planner for C: a legal route with breaks and rests that arrives first.
+ *
+ * Build the library with `rt staticlib trunk` (it writes target/staticlib/libtrunk.a, for x86-64 Linux) and link it:
+ *     cc -Iinclude program.c target/staticlib/libtrunk.a
+ *
+ * Each function is proved to do what its contract says, for every content and every length of what it is lent; the
+ * contracts are in crates/trunk/specs/Calls.antt. What the prover cannot see is this file, so the caller owes:
+ * - each pointer is not NULL, also where the length is 0, and is aligned for its type;
+ * - so many elements as the length says are there, readable, and writable where the pointer is not const;
+ * - what is written overlaps nothing else that the same call is lent. What is only read may overlap.
+ *
+ * No function keeps anything between calls, allocates, prints or fails in another way than by its reply. Calls from
+ * several threads need no lock as long as nobody writes what another call is lent.
+ *
+ * Formats: maps, orders and sheets are bytes, with 32-bit words in little-endian order, as document 01 describes them.
+ * Label space and replies are numbers of the machine.
+ *
+ * The reply is three numbers: number, place, arrival. Number 0 is a success; any other is a refusal, listed below, whose
+ * place says where and whose arrival is 0. A refusal changes no byte of a map or of a sheet. Give `reply` room for three
+ * numbers (`reply_count` at least 3); further ones stay as they are. With less room the call does nothing and writes
+ * nothing at all, so set reply[0] to another value beforehand if the count may be wrong.
+ *
+ * Stack, measured on x86-64 with the library of this version, the same for every map and order:
+ *     trunk_plan                1,049,463 bytes; leave 1,280 KiB
+ *     every other function at most 262,711 bytes; leave 320 KiB
+ * The main thread (8 MiB as a rule) and threads of glibc and Rust with their usual size have enough.
+ */
+#ifndef TRUNK_H
+#define TRUNK_H
+
+#include <stddef.h>
+#include <stdint.h>
+
+#ifdef __cplusplus
+extern "C" {
+#endif
+
+/* What a reply's number says, and what its place is then. */
+enum trunk_number {
+    TRUNK_DONE = 0,
+    TRUNK_SHORT_MAP = 1,      /* under 16 bytes: its length */
+    TRUNK_STRANGE_MAP = 2,    /* the format is not 1: 0 */
+    TRUNK_OVERSIZE = 3,       /* the junctions, roads or name bytes are out of range: 4, 8 or 12, the first */
+    TRUNK_MISFIT = 4,         /* the map's length differs from what its counts need: the length needed */
+    TRUNK_BAD_JUNCTION = 5,   /* first road, flag or place of the name: the lowest such junction */
+    TRUNK_BAD_ROAD = 6,       /* any field: the lowest such road */
+    TRUNK_BROKEN_CHAIN = 7,   /* a road off its chain or on another's: the lowest such road */
+    TRUNK_BAD_LETTERING = 8,  /* a name byte outside 0x20 to 0x7E: its offset in the map, the lowest */
+    TRUNK_BAD_ORDER = 9,      /* the order is not 40 bytes: its length */
+    TRUNK_BAD_RULES = 10,     /* words 6 to 9 of the order: the first such word */
+    TRUNK_BAD_TRIP = 11,      /* words 0 to 5 of the order: the first such word */
+    TRUNK_FULL = 12,          /* more labels are needed than fit: the labels that fit */
+    TRUNK_NO_ROAD = 13,       /* no legal journey: how many labels there are */
+    TRUNK_SHORT_SHEET = 14,   /* the sheet to write is too short: the bytes needed */
+    TRUNK_TORN_SHEET = 15,    /* the sheet to read is not one: its length */
+    TRUNK_FOREIGN_MOVE = 16,  /* a move that the rules do not offer: which move, from 1 */
+    TRUNK_OVERRUN = 17,       /* a move that breaks a limit: which move, from 1 */
+    TRUNK_FALSE_FIGURE = 18,  /* a clock that is not true: which move; the header: one more than the moves */
+    TRUNK_STRAY = 19,         /* the moves do not end at the target: the junction reached */
+    TRUNK_UNKNOWN_NAME = 20   /* no such junction: the junction asked */
+};
+
+/* Map check. Reads the map. Refuses 1 to 8; success is 0, 0, 0. */
+void trunk_check_map(const uint8_t *map, size_t map_length,
+                     uint64_t *reply, size_t reply_count);
+
+/* Planning. Reads the map and the order; writes the plan to the sheet, and uses `words` as label space, eight words a
+ * label, at most 1,000,000 labels. What the words hold before does not matter; afterwards they hold nothing of use.
+ * Refuses 1 to 14; 1 to 11 leave the words as they were. Success is 0, the number of labels, the arrival: the sheet then
+ * holds the plan in its first 20 + 12 * moves bytes, and the bytes after them stay. */
+void trunk_plan(const uint8_t *map, size_t map_length,
+                const uint8_t *order, size_t order_length,
+                uint32_t *words, size_t word_count,
+                uint8_t *sheet, size_t sheet_length,
+                uint64_t *reply, size_t reply_count);
+
+/* Retiming. Reads a map, an order and a sheet, of which the figures do not count; writes the same moves with their true
+ * figures to `out`. Give the sheet read its own length, 20 + 12 * moves, and no more. Refuses 1 to 11, 15, 16 and 17 move
+ * by move, 19, 14. Success is 0, the number of moves, the arrival; bytes of `out` after 20 + 12 * moves stay. */
+void trunk_retime(const uint8_t *map, size_t map_length,
+                  const uint8_t *order, size_t order_length,
+                  const uint8_t *sheet, size_t sheet_length,
+                  uint8_t *out, size_t out_length,
+                  uint64_t *reply, size_t reply_count);
+
+/* Audit: whether a sheet's moves are legal and its figures true; its label count is not judged. Writes nothing but the
+ * reply. Refuses 1 to 11, 15, 16 to 18 move by move, 19, 18 for the header. Success is 0, the number of moves, the
+ * arrival. */
+void trunk_audit(const uint8_t *map, size_t map_length,
+                 const uint8_t *order, size_t order_length,
+                 const uint8_t *sheet, size_t sheet_length,
+                 uint64_t *reply, size_t reply_count);
+
+/* Name of a junction. Writes to `part` where in the map the name starts and how long it is, 0 and 0 when refused. `part`
+ * takes two numbers; with less room than that the call does nothing, as with a short reply. The name has no byte 0 at its
+ * end. Refuses 1 to 8, 20. Success is 0, the name's length, 0. */
+void trunk_name(const uint8_t *map, size_t map_length,
+                uint32_t junction,
+                uint64_t *reply, size_t reply_count,
+                uint64_t *part, size_t part_count);
+
+/* Chain making. Sets each junction's first road and each road's next road in the map, whatever they were, so that each
+ * chain rises through all its junction's roads. Changes nothing else; the map then passes the map check. Refuses 1 to 6,
+ * not judging those fields, and 8. Success is 0, 0, 0. */
+void trunk_make_chains(uint8_t *map, size_t map_length,
+                       uint64_t *reply, size_t reply_count);
+
+#ifdef __cplusplus
+}
+#endif
+
+#endif

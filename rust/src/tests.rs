@@ -1,0 +1,239 @@
+//! Document 01's trial trips and a refusal of each call, through the library.
+use super::*;
+
+const NAMES: &[u8] = b"HubLayEnd";
+const FIRST_ROAD_OF_HUB: usize = 16;
+const NEXT_OF_ROAD_1: usize = 16 + 16 * 3 + 16;
+
+fn bytes_of(words: &[u32]) -> Vec<u8> {
+    words.iter().flat_map(|word| word.to_le_bytes()).collect()
+}
+
+/// Map T: Hub 1, Lay 2 (a car park), End 3.
+fn map_t() -> Vec<u8> {
+    let mut map = bytes_of(&[
+        1, 3, 3, 9, // header
+        1, 0, 0, 3, 2, 1, 3, 3, 0, 0, 6, 3, // junctions
+        1, 2, 240000, 80, 3, 2, 3, 160000, 80, 0, 1, 3, 400000, 80, 0, // roads
+    ]);
+    map.extend_from_slice(NAMES);
+    map
+}
+
+/// The European order from 1 to 3.
+fn order_t(latest: u32) -> Vec<u8> {
+    bytes_of(&[1, 3, 0, latest, 0, 0, 16200, 2700, 32400, 39600])
+}
+
+fn planned_sheet() -> Vec<u8> {
+    let mut sheet = vec![0; 56];
+    plan(&map_t(), &order_t(100_000), &mut [7; 8 * 4], &mut sheet).unwrap();
+    sheet
+}
+
+fn refused<T>(refusal: Refusal, place: u64) -> Result<T, Refused> {
+    Err(Refused { refusal, place })
+}
+
+#[test]
+fn plans_map_t() {
+    let mut sheet = vec![0xEE; 60];
+    let planned = plan(&map_t(), &order_t(100_000), &mut [7; 8 * 4], &mut sheet);
+    assert_eq!(
+        planned,
+        Ok(Planned {
+            labels: 4,
+            arrival: 20_700
+        })
+    );
+    let mut written = bytes_of(&[
+        3, 20_700, 7_200, 18_000, 4, 1, 1, 10_800, 2, 2, 13_500, 1, 2, 20_700,
+    ]);
+    written.extend([0xEE; 4]);
+    assert_eq!(sheet, written);
+}
+
+#[test]
+fn latest_arrival_decides() {
+    let planned = plan(&map_t(), &order_t(20_700), &mut [0; 8 * 4], &mut [0; 56]);
+    assert_eq!(
+        planned,
+        Ok(Planned {
+            labels: 4,
+            arrival: 20_700
+        })
+    );
+    let late = plan(&map_t(), &order_t(20_699), &mut [0; 8 * 4], &mut [0; 56]);
+    assert_eq!(late, refused(Refusal::NoRoad, 3));
+}
+
+#[test]
+fn three_labels_are_full() {
+    let full = plan(
+        &map_t(),
+        &order_t(100_000),
+        &mut [0; 8 * 4 - 1],
+        &mut [0; 56],
+    );
+    assert_eq!(full, refused(Refusal::Full, 3));
+}
+
+#[test]
+fn no_label_space_and_no_sheet() {
+    assert_eq!(
+        plan(&map_t(), &order_t(100_000), &mut [], &mut []),
+        refused(Refusal::Full, 0)
+    );
+}
+
+#[test]
+fn a_short_sheet_stays() {
+    let mut sheet = [0xEE; 55];
+    let short = plan(&map_t(), &order_t(100_000), &mut [0; 8 * 4], &mut sheet);
+    assert_eq!(short, refused(Refusal::ShortSheet, 56));
+    assert_eq!(sheet, [0xEE; 55]);
+}
+
+#[test]
+fn a_refusal_before_the_search_leaves_the_label_space() {
+    let mut words = [7; 8 * 4];
+    let bad = plan(&map_t(), &order_t(100_000)[..39], &mut words, &mut [0; 56]);
+    assert_eq!(bad, refused(Refusal::BadOrder, 39));
+    assert_eq!(words, [7; 8 * 4]);
+}
+
+#[test]
+fn retimes_and_audits_a_plan() {
+    let timed = Ok(Timed {
+        moves: 3,
+        arrival: 20_700,
+    });
+    let true_sheet = planned_sheet();
+    let mut false_sheet = true_sheet.clone();
+    false_sheet[4] += 1; // arrival
+    false_sheet[20 + 12 + 8] += 1; // the clock after move 2
+    let mut out = vec![0; 56];
+    assert_eq!(audit(&map_t(), &order_t(100_000), &true_sheet), timed);
+    assert_eq!(
+        audit(&map_t(), &order_t(100_000), &false_sheet),
+        refused(Refusal::FalseFigure, 2)
+    );
+    assert_eq!(
+        retime(&map_t(), &order_t(100_000), &false_sheet, &mut out),
+        timed
+    );
+    assert_eq!(out, true_sheet);
+    assert_eq!(
+        retime(&map_t(), &order_t(100_000), &false_sheet, &mut out[..55]),
+        refused(Refusal::ShortSheet, 56)
+    );
+    assert_eq!(
+        audit(&map_t(), &order_t(100_000), &true_sheet[..55]),
+        refused(Refusal::TornSheet, 55)
+    );
+}
+
+#[test]
+fn names_are_parts_of_the_map() {
+    let map = map_t();
+    assert_eq!(name(&map, 1), Ok(&b"Hub"[..]));
+    assert_eq!(name(&map, 2), Ok(&b"Lay"[..]));
+    assert_eq!(
+        name(&map, 3).unwrap().as_ptr(),
+        map[map.len() - 3..].as_ptr()
+    );
+    assert_eq!(name(&map, 0), refused(Refusal::UnknownName, 0));
+    assert_eq!(name(&map, 4), refused(Refusal::UnknownName, 4));
+    assert_eq!(name(&map[..132], 1), refused(Refusal::Misfit, 133));
+}
+
+#[test]
+fn checks_and_chains_maps() {
+    let mut map = map_t();
+    assert_eq!(check_map(&map), Ok(()));
+    assert_eq!(check_map(&[]), refused(Refusal::ShortMap, 0));
+    map[FIRST_ROAD_OF_HUB] = 3;
+    map[NEXT_OF_ROAD_1] = 0;
+    assert_eq!(check_map(&map), refused(Refusal::BrokenChain, 1));
+    assert_eq!(make_chains(&mut map), Ok(()));
+    assert_eq!(map, map_t());
+    map[0] = 2;
+    assert_eq!(make_chains(&mut map), refused(Refusal::StrangeMap, 0));
+}
+
+#[test]
+fn numbers_are_document_01s() {
+    for (i, refusal) in Refusal::ALL.into_iter().enumerate() {
+        assert_eq!(refusal.number(), i as u64 + 1);
+    }
+    let full = Refused {
+        refusal: Refusal::Full,
+        place: 3,
+    };
+    assert_eq!(full.to_string(), "refused 12 3 (Full)");
+}
+
+/// Who lends fewer than three numbers for the reply gets nothing changed.
+#[test]
+fn a_short_reply_changes_nothing() {
+    let (map, order) = (map_t(), order_t(100_000));
+    let (mut words, mut sheet, mut reply) = ([7; 8 * 4], [0xEE; 56], [9; 2]);
+    unsafe {
+        raw::trunk_plan(
+            map.as_ptr(),
+            map.len(),
+            order.as_ptr(),
+            order.len(),
+            words.as_mut_ptr(),
+            words.len(),
+            sheet.as_mut_ptr(),
+            sheet.len(),
+            reply.as_mut_ptr(),
+            reply.len(),
+        )
+    };
+    assert_eq!((words, sheet, reply), ([7; 8 * 4], [0xEE; 56], [9; 2]));
+}
+
+/// A reply longer than three keeps its rest; a part shorter than two stops the call.
+#[test]
+fn a_name_needs_room_for_its_place() {
+    let map = map_t();
+    let (mut reply, mut part) = ([9; 4], [9; 3]);
+    unsafe {
+        raw::trunk_name(
+            map.as_ptr(),
+            map.len(),
+            2,
+            reply.as_mut_ptr(),
+            4,
+            part.as_mut_ptr(),
+            1,
+        )
+    };
+    assert_eq!((reply, part), ([9; 4], [9; 3]));
+    unsafe {
+        raw::trunk_name(
+            map.as_ptr(),
+            map.len(),
+            2,
+            reply.as_mut_ptr(),
+            4,
+            part.as_mut_ptr(),
+            3,
+        )
+    };
+    assert_eq!((reply, part), ([0, 3, 0, 9], [127, 3, 9]));
+    unsafe {
+        raw::trunk_name(
+            map.as_ptr(),
+            map.len(),
+            4,
+            reply.as_mut_ptr(),
+            4,
+            part.as_mut_ptr(),
+            3,
+        )
+    };
+    assert_eq!((reply, part), ([20, 4, 0, 9], [0, 0, 9]));
+}
