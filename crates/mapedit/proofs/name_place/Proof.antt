@@ -3,7 +3,7 @@ use borrow.Author.Needs.{needs}
 use native.Mathlib.Omega.{arith}
 use Rattle.roadmap.specs.Format.{HasSizes}
 use Rattle.mapcheck.proofs.Tried.{has-header, has-sizes, accepted-sizes}
-use Rattle.mapedit.proofs.Named.{Named, number-named}
+use Rattle.mapedit.proofs.Named.{number-named}
 use Rattle.mapedit.proofs.name_place.Statement.{statement}
 use Rattle.mapedit.proofs.name_place.Tie as tie
 
