@@ -20,7 +20,7 @@
  * numbers (`reply_count` at least 3); further ones stay as they are. With less room the call does nothing and writes
  * nothing at all, so set reply[0] to another value beforehand if the count may be wrong.
  *
- * Stack, measured on x86-64 with the library of this version, the same for every map and order:
+ * Stack, measured with the library of this version (frames are fixed and nothing recurses, so no input takes more):
  *     trunk_plan                1,049,463 bytes; leave 1,280 KiB
  *     every other function at most 262,711 bytes; leave 320 KiB
  * The main thread (8 MiB as a rule) and threads of glibc and Rust with their usual size have enough.
