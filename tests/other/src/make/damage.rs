@@ -47,7 +47,7 @@ fn damage_junction(random: &mut Random, map: &mut Map) {
         }
         _ => {
             let last_start = names.saturating_sub(junction.name_length);
-            let wrapping = ALL_BITS - junction.name_length.min(ALL_BITS - 1) + 1;
+            let wrapping = ALL_BITS - junction.name_length.saturating_sub(1);
             junction.name_start = random.pick(&[last_start, last_start + 1, wrapping, ALL_BITS]);
         }
     }
