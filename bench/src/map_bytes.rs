@@ -1,0 +1,43 @@
+//! The junctions and roads in the bytes of an accepted map, for the planners' conversions.
+
+use other::map::{HEADER_BYTES, JUNCTION_BYTES, ROAD_BYTES};
+use other::words::word;
+
+pub struct Road {
+    pub number: u32,
+    pub from: u32,
+    pub to: u32,
+    pub time: u32,
+}
+
+pub fn junction_count(map: &[u8]) -> usize {
+    word(map, 4) as usize
+}
+
+pub fn road_count(map: &[u8]) -> usize {
+    word(map, 8) as usize
+}
+
+/// Whether each junction is a car park.
+pub fn car_parks(map: &[u8]) -> impl Iterator<Item = bool> + '_ {
+    let junctions = &map[HEADER_BYTES..][..JUNCTION_BYTES * junction_count(map)];
+    junctions
+        .chunks_exact(JUNCTION_BYTES)
+        .map(|junction| word(junction, 4) == 1)
+}
+
+/// The roads, from the first to the last.
+pub fn roads(map: &[u8]) -> impl DoubleEndedIterator<Item = Road> + '_ {
+    let start = HEADER_BYTES + JUNCTION_BYTES * junction_count(map);
+    let roads = &map[start..][..ROAD_BYTES * road_count(map)];
+    let read = |(index, road): (usize, &[u8])| {
+        let (metres, speed) = (word(road, 8), word(road, 12));
+        Road {
+            number: index as u32 + 1,
+            from: word(road, 0) as u32,
+            to: word(road, 4) as u32,
+            time: (18 * metres).div_ceil(5 * speed) as u32,
+        }
+    };
+    roads.chunks_exact(ROAD_BYTES).enumerate().map(read)
+}

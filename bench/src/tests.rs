@@ -1,0 +1,136 @@
+//! The planners against the other planner, which enumerates every reachable state, and against each
+//! other on maps too large for that.
+
+use other::case_probes::AMPLE_WORDS;
+use other::make::orders::MOST_STATES;
+use other::make::random::Random;
+use other::make::{case, Run};
+use other::mapcheck::check_map;
+use other::moves::Trip as SmallTrip;
+use other::operations::DOCUMENT;
+use other::order::Order;
+use other::reply::Reply;
+use other::retiming::audit;
+use other::sheet::sheet_bytes;
+
+use crate::answer::Answer;
+use crate::journeys::wander;
+use crate::maps::{grid, practice, NamedMap, MOST_JUNCTIONS};
+use crate::ordinary::{self, Ordinary};
+use crate::strong::heap::Heap;
+use crate::strong::{self, Strong};
+use crate::trip::Trip;
+use crate::trips::{european_order, Targets};
+
+const SEED: u64 = 1;
+const CASES: u64 = 600;
+
+/// Both planners, so that their storage is used again from case to case.
+#[derive(Default)]
+struct Both {
+    ordinary: Ordinary,
+    strong: Strong,
+}
+
+impl Both {
+    fn answers(&mut self, map: &[u8], order: &Order) -> [Answer; 2] {
+        let trip = Trip::new(order);
+        [
+            self.ordinary.plan(&ordinary::Graph::new(map), &trip),
+            self.strong.plan(&strong::Graph::new(map), &trip),
+        ]
+    }
+}
+
+fn enumerated(run: &Run) -> Answer {
+    let mut labels = vec![0; AMPLE_WORDS];
+    let mut sheet = vec![0; sheet_bytes(MOST_STATES)];
+    let reply = (DOCUMENT.plan)(&run.map, &run.order, &mut labels, &mut sheet);
+    Answer::told(&reply, &sheet).expect("an accepted run with label space and sheet to spare")
+}
+
+#[test]
+fn both_answer_as_the_other_planner() {
+    let mut both = Both::default();
+    let (mut planned, mut without_road, mut most_labels) = (0, 0, 0);
+    for number in 0..CASES {
+        for run in case(SEED, number).runs() {
+            let Ok(trip) = SmallTrip::open(&run.map, &run.order) else {
+                continue;
+            };
+            let meant = enumerated(run);
+            for answer in both.answers(&run.map, &trip.order) {
+                assert_eq!(answer, meant, "seed {SEED}, case {number}");
+            }
+            match meant {
+                Answer::Planned(_) => planned += 1,
+                Answer::NoRoad(_) => without_road += 1,
+            }
+            most_labels = most_labels.max(meant.labels());
+        }
+    }
+    println!("{planned} planned, {without_road} without a road, up to {most_labels} labels");
+    assert!(planned > 300 && without_road > 50 && most_labels > 100);
+}
+
+/// Short pauses leave many labels at a junction.
+#[test]
+fn both_agree_on_larger_maps() {
+    let mut both = Both::default();
+    for map in [practice(256), practice(1_024), grid(16), grid(32)] {
+        for target in (1..=256).step_by(9) {
+            let european = european_order(target);
+            let short_pauses = Order {
+                break_time: 600,
+                rest_time: 700,
+                ..european
+            };
+            for order in [european, short_pauses] {
+                let [one, two] = both.answers(&map.bytes, &order);
+                assert_eq!(one, two, "{}, {order:?}", map.name);
+            }
+        }
+    }
+}
+
+#[test]
+fn targets_have_the_labels_that_a_search_takes() {
+    let map = practice(1_024);
+    let counts = [1, 100, 1_000];
+    let trips = Targets::of(&map.bytes).with_labels(&counts);
+    assert_eq!(trips.len(), counts.len());
+    for (trip, least) in trips.iter().zip(counts) {
+        let [answer, _] = Both::default().answers(&map.bytes, &trip.order);
+        let above = answer.labels() as usize - least;
+        assert!(above < 10, "{} labels", answer.labels());
+    }
+}
+
+#[test]
+fn wandering_makes_true_sheets() {
+    let map = practice(64);
+    let journey = wander(&map, 500);
+    let reply = audit(&map.bytes, &journey.order, &journey.sheet);
+    assert_eq!((reply.number, reply.place), (0, journey.moves));
+}
+
+#[test]
+fn maps_pass_the_check() {
+    let passes = |map: NamedMap| assert_eq!(check_map(&map.bytes), Reply::success(0, 0));
+    passes(practice(MOST_JUNCTIONS));
+    passes(grid(5));
+    passes(grid(96));
+}
+
+#[test]
+fn the_heap_gives_keys_in_order() {
+    let random = &mut Random::new(SEED, 0);
+    let mut heap = Heap::default();
+    for count in 0..200 {
+        let mut keys: Vec<u128> = (0..count).map(|_| random.below(50).into()).collect();
+        keys.iter().for_each(|key| heap.push(*key));
+        keys.sort_unstable();
+        let given: Vec<u128> = std::iter::from_fn(|| heap.pop()).collect();
+        assert_eq!(given, keys);
+    }
+}

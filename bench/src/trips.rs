@@ -1,0 +1,75 @@
+//! The trips that are timed: from junction 1 under the European figures, to targets chosen by N.
+
+use other::order::{Order, EUROPEAN_RULES, LATEST_CLOCK};
+
+use crate::strong::{Graph, Strong};
+use crate::trip::Trip;
+
+pub struct NamedTrip {
+    pub name: String,
+    pub order: Order,
+}
+
+pub fn european_order(target: u64) -> Order {
+    let [spell_limit, break_time, shift_limit, rest_time] = EUROPEAN_RULES;
+    Order {
+        source: 1,
+        target,
+        departure: 0,
+        latest: LATEST_CLOCK,
+        spell: 0,
+        shift: 0,
+        spell_limit,
+        break_time,
+        shift_limit,
+        rest_time,
+    }
+}
+
+/// The targets that a million labels reach, by N.
+pub struct Targets {
+    /// N and target, by rising N.
+    by_labels: Vec<(usize, u64)>,
+}
+
+impl Targets {
+    /// A search passes through the same labels whatever its target, so that one tells every N.
+    pub fn of(map: &[u8]) -> Targets {
+        let trip = Trip::new(&european_order(1));
+        let needed = Strong::default().labels_to_each(&Graph::new(map), &trip);
+        let mut by_labels: Vec<_> = needed
+            .into_iter()
+            .zip(0..)
+            .filter(|(labels, _)| *labels > 0)
+            .collect();
+        by_labels.sort_unstable();
+        Targets { by_labels }
+    }
+
+    /// Targets whose N is the 10th, 50th and 95th percentile.
+    pub fn near_middle_far(&self) -> Vec<NamedTrip> {
+        [("near", 10), ("middle", 50), ("far", 95)]
+            .map(|(name, percentile)| {
+                let index = (self.by_labels.len() - 1) * percentile / 100;
+                let (_, target) = self.by_labels[index];
+                NamedTrip {
+                    name: format!("{name}, to {target}"),
+                    order: european_order(target),
+                }
+            })
+            .into()
+    }
+
+    /// For each of these counts the target with the lowest N not below it, where there is one.
+    pub fn with_labels(&self, counts: &[usize]) -> Vec<NamedTrip> {
+        let first_with = |count: &usize| {
+            let index = self.by_labels.partition_point(|(labels, _)| labels < count);
+            let (_, target) = *self.by_labels.get(index)?;
+            Some(NamedTrip {
+                name: format!("to {target}"),
+                order: european_order(target),
+            })
+        };
+        counts.iter().filter_map(first_with).collect()
+    }
+}
