@@ -1,0 +1,129 @@
+//! Times the proved library against planners written here, and prints tables in markdown. A plan or
+//! a reply that differs ends it; no time does.
+
+mod checks;
+mod library;
+mod planning;
+mod table;
+mod timing;
+
+use std::fs::read_to_string;
+use std::process::ExitCode;
+
+use bench::maps::{grid, practice, NamedMap, MOST_JUNCTIONS};
+use bench::trips::Targets;
+use checks::{print_map_checks, print_sheet_checks};
+use planning::{print_ratios, print_times, Planners};
+
+const USAGE: &str = "bench [--quick]";
+
+/// How much is timed.
+struct Extent {
+    runs: usize,
+    practice_sizes: &'static [u64],
+    grid_sides: &'static [u64],
+    /// The label counts at which growth is seen.
+    label_counts: &'static [usize],
+    /// The moves of the sheets that are retimed and audited.
+    sheet_lengths: &'static [u64],
+}
+
+const WHOLE: Extent = Extent {
+    runs: 15,
+    practice_sizes: &[256, 1_024, 4_096, 12_288],
+    grid_sides: &[32, 64, 96],
+    label_counts: &[
+        1_000, 3_000, 10_000, 30_000, 60_000, 100_000, 200_000, 300_000,
+    ],
+    sheet_lengths: &[1_000, 10_000, 100_000],
+};
+
+const QUICK: Extent = Extent {
+    runs: 5,
+    practice_sizes: &[256, 4_096],
+    grid_sides: &[32],
+    label_counts: &[1_000, 30_000],
+    sheet_lengths: &[1_000],
+};
+
+fn main() -> ExitCode {
+    let arguments: Vec<String> = std::env::args().skip(1).collect();
+    let arguments: Vec<&str> = arguments.iter().map(String::as_str).collect();
+    let done = match arguments[..] {
+        [] => report(&WHOLE),
+        ["--quick"] => report(&QUICK),
+        _ => Err(USAGE.to_string()),
+    };
+    match done {
+        Ok(()) => ExitCode::SUCCESS,
+        Err(complaint) => {
+            eprintln!("{complaint}");
+            ExitCode::FAILURE
+        }
+    }
+}
+
+fn report(extent: &Extent) -> Result<(), String> {
+    let runs = extent.runs;
+    println!("{}, {} when begun.", processor(), load());
+    println!("Each figure is the best of {runs} runs that take turns.\n");
+    let maps = maps(extent);
+    let mut planners = Planners::new();
+    report_planning(runs, &mut planners, &maps)?;
+    report_growth(extent, &mut planners)?;
+    println!("### Map check, nanoseconds per road\n");
+    print_map_checks(runs, &maps)?;
+    println!("### Retiming and audit, nanoseconds per move\n");
+    print_sheet_checks(runs, &maps[0], extent.sheet_lengths)?;
+    println!("{} when done.", load());
+    Ok(())
+}
+
+fn maps(extent: &Extent) -> Vec<NamedMap> {
+    let practice_maps = extent.practice_sizes.iter().map(|size| practice(*size));
+    let grids = extent.grid_sides.iter().map(|side| grid(*side));
+    practice_maps.chain(grids).collect()
+}
+
+fn report_planning(runs: usize, planners: &mut Planners, maps: &[NamedMap]) -> Result<(), String> {
+    let mut timed = Vec::new();
+    for map in maps {
+        for trip in Targets::of(&map.bytes).near_middle_far() {
+            timed.push(planners.time(runs, map, &trip)?);
+        }
+    }
+    println!("### Planning, nanoseconds per label\n");
+    print_times(&timed);
+    println!("### Planning, ratios\n");
+    print_ratios(&timed);
+    Ok(())
+}
+
+fn report_growth(extent: &Extent, planners: &mut Planners) -> Result<(), String> {
+    let map = practice(MOST_JUNCTIONS);
+    let mut timed = Vec::new();
+    for trip in Targets::of(&map.bytes).with_labels(extent.label_counts) {
+        timed.push(planners.time(extent.runs, &map, &trip)?);
+    }
+    println!("### Growth with N, nanoseconds per label\n");
+    print_times(&timed);
+    println!("### Growth with N, ratios\n");
+    print_ratios(&timed);
+    Ok(())
+}
+
+fn processor() -> String {
+    let all = read_to_string("/proc/cpuinfo").unwrap_or_default();
+    let model = all
+        .lines()
+        .find_map(|line| line.strip_prefix("model name\t: "));
+    model.unwrap_or("unknown processor").to_string()
+}
+
+fn load() -> String {
+    let all = read_to_string("/proc/loadavg").unwrap_or_default();
+    format!(
+        "load average {}",
+        all.split(' ').next().unwrap_or("unknown")
+    )
+}
