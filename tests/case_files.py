@@ -1,12 +1,7 @@
 """The format in which the program `trials` reads worked cases, and the list of them."""
-import struct
+from formats import words
 
-ALL_BITS = 0xFFFFFFFF
 CASES = []
-
-
-def words(*values):
-    return struct.pack("<%dI" % len(values), *values)
 
 
 def case(kind, title, answer, number=0, trunk=b"", order=b"", sheet=b""):

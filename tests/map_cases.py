@@ -2,32 +2,9 @@
 
 The expected replies are written here by hand from document 01; nothing is taken from the program.
 """
-from case_files import ALL_BITS, case, words
-
-
-class Map:
-    """A map as lists; `bytes` puts it together, whatever the values."""
-
-    def __init__(self, junctions, roads, names, format=1):
-        self.format = format
-        self.junctions = [list(j) for j in junctions]  # first, car park, name start, name length
-        self.roads = [list(r) for r in roads]  # from, to, metres, speed, next
-        self.names = names
-
-    def bytes(self):
-        header = words(self.format, len(self.junctions), len(self.roads), len(self.names))
-        junctions = b"".join(words(*j) for j in self.junctions)
-        roads = b"".join(words(*r) for r in self.roads)
-        return header + junctions + roads + self.names
-
-
-def map_t():
-    """Map T of document 01."""
-    return Map(
-        [[1, 0, 0, 3], [2, 1, 3, 3], [0, 0, 6, 3]],
-        [[1, 2, 240000, 80, 3], [2, 3, 160000, 80, 0], [1, 3, 400000, 80, 0]],
-        b"HubLayEnd",
-    )
+from case_files import case
+from formats import ALL_BITS, Map, map_t, words
+from formats import order as changed
 
 
 def two_defects():
@@ -157,16 +134,6 @@ check("two bad letters: the lowest", letter(130, 0)[:132] + b"\x00", "8 130 0")
 check("broken chain and bad letter: the chain", road(1, NEXT, 0)[:-1] + b"\x7f", "7 3 0")
 
 # --- order check -----------------------------------------------------------------------------
-EUROPE = [1, 3, 0, 100000, 0, 0, 16200, 2700, 32400, 39600]
-
-
-def changed(**at):
-    w = list(EUROPE)
-    for key, value in at.items():
-        w[int(key[1:])] = value
-    return words(*w)
-
-
 order("European order 1 to 3", 3, changed(), "0 0 0")
 order("no order", 3, b"", "9 0 0")
 order("39 bytes", 3, changed()[:-1], "9 39 0")

@@ -3,40 +3,14 @@
 The expected replies and figures are written here by hand from document 01; nothing is taken from
 the program.
 """
-from case_files import ALL_BITS, case, words
+from case_files import case
+from formats import ALL_BITS, BREAK, DRIVE, Map, map_t, order, sheet, words
 
-
-def trunk_map(junctions, roads, names):
-    header = words(1, len(junctions), len(roads), len(names))
-    return header + b"".join(words(*j) for j in junctions) + b"".join(words(*r) for r in roads) + names
-
-
-# Map T of document 01: Hub 1, Lay 2 (car park), End 3; roads of 10,800, 7,200 and 18,000 seconds.
-T = trunk_map(
-    [[1, 0, 0, 3], [2, 1, 3, 3], [0, 0, 6, 3]],
-    [[1, 2, 240000, 80, 3], [2, 3, 160000, 80, 0], [1, 3, 400000, 80, 0]],
-    b"HubLayEnd",
-)
+T = map_t().bytes()
 # One junction, a car park, with a road to itself of 50 seconds (1,250 m at 90).
-LOOP = trunk_map([[1, 1, 0, 1]], [[1, 1, 1250, 90, 0]], b"x")
-EUROPE = [1, 3, 0, 100000, 0, 0, 16200, 2700, 32400, 39600]
+LOOP = Map([[1, 1, 0, 1]], [[1, 1, 1250, 90, 0]], b"x").bytes()
 HOME = [1, 1, 7, 100000, 5, 6, 16200, 2700, 32400, 39600]
-DRIVE, BREAK, REST = 1, 2, 3
 PLAN = [(DRIVE, 1, 10800), (BREAK, 2, 13500), (DRIVE, 2, 20700)]
-
-
-def order(base=EUROPE, **at):
-    w = list(base)
-    for key, value in at.items():
-        w[int(key[1:])] = value
-    return words(*w)
-
-
-def sheet(rows, arrival=0, spell=0, shift=0, labels=4, moves=None):
-    head = words(len(rows) if moves is None else moves, arrival, spell, shift, labels)
-    return head + b"".join(words(*r) for r in rows)
-
-
 TRUE = sheet(PLAN, 20700, 7200, 18000)
 
 

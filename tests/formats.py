@@ -1,0 +1,62 @@
+"""Maps, orders and sheets as bytes, in the formats of document 01."""
+import struct
+
+ALL_BITS = 0xFFFFFFFF
+EUROPE = [1, 3, 0, 100000, 0, 0, 16200, 2700, 32400, 39600]
+DRIVE, BREAK, REST = 1, 2, 3
+
+
+def words(*values):
+    return struct.pack("<%dI" % len(values), *values)
+
+
+class Map:
+    """A map as lists; `bytes` puts it together, whatever the values."""
+
+    def __init__(self, junctions, roads, names, format=1):
+        self.format = format
+        self.junctions = [list(j) for j in junctions]  # first, car park, name start, name length
+        self.roads = [list(r) for r in roads]  # from, to, metres, speed, next
+        self.names = names
+
+    def bytes(self):
+        header = words(self.format, len(self.junctions), len(self.roads), len(self.names))
+        junctions = b"".join(words(*j) for j in self.junctions)
+        roads = b"".join(words(*r) for r in self.roads)
+        return header + junctions + roads + self.names
+
+
+def map_t():
+    """Map T of document 01: Hub 1, Lay 2 (car park), End 3; roads of 10,800, 7,200 and 18,000 seconds."""
+    return Map(
+        [[1, 0, 0, 3], [2, 1, 3, 3], [0, 0, 6, 3]],
+        [[1, 2, 240000, 80, 3], [2, 3, 160000, 80, 0], [1, 3, 400000, 80, 0]],
+        b"HubLayEnd",
+    )
+
+
+def chained(junctions, roads):
+    """The map of junctions (name, whether a car park) and roads (from, to, metres, speed), with its chains."""
+    placed, names = [], b""
+    for name, park in junctions:
+        placed.append([0, int(park), len(names), len(name)])
+        names += name.encode()
+    linked = []
+    for number in range(len(roads), 0, -1):
+        junction = placed[roads[number - 1][0] - 1]
+        linked.insert(0, [*roads[number - 1], junction[0]])
+        junction[0] = number
+    return Map(placed, linked, names)
+
+
+def order(base=EUROPE, **at):
+    """The order of ten words; `w3=7` makes word 3 a 7."""
+    w = list(base)
+    for key, value in at.items():
+        w[int(key[1:])] = value
+    return words(*w)
+
+
+def sheet(rows, arrival=0, spell=0, shift=0, labels=4, moves=None):
+    head = words(len(rows) if moves is None else moves, arrival, spell, shift, labels)
+    return head + b"".join(words(*r) for r in rows)
