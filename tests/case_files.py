@@ -15,4 +15,4 @@ def files():
         given += kind.encode() + bytes([len(title)]) + title.encode()
         given += words(number, len(trunk), len(order), len(sheet)) + trunk + order + sheet
         expected += ("%s: %s\n" % (title, answer)).encode()
-    return {"stdin": given, "stdout": expected}
+    return {"trials/stdin": given, "trials/stdout": expected}

@@ -5,6 +5,14 @@ ALL_BITS = 0xFFFFFFFF
 EUROPE = [1, 3, 0, 100000, 0, 0, 16200, 2700, 32400, 39600]
 DRIVE, BREAK, REST = 1, 2, 3
 
+# What the program prints of map T and its order, as document 01 has it.
+T_LISTING = """\
+drive 1 Lay 10800
+break 2 Lay 13500
+drive 2 End 20700
+arrive 20700 7200 18000 labels 4
+"""
+
 
 def words(*values):
     return struct.pack("<%dI" % len(values), *values)

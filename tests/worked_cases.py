@@ -1,8 +1,8 @@
 #!/usr/bin/env python3
-"""Writes what the program `trials` reads (stdin) and what it must print (stdout).
+"""Writes what the programs `trials` and `plan` read and what they must print.
 
-    tests/worked_cases.py           write crates/trials/stdin and stdout
-    tests/worked_cases.py --check   fail where the stored files differ from what would be written
+    tests/worked_cases.py           write the files below crates/trials and crates/plan
+    tests/worked_cases.py --check   fail where a stored file differs from what would be written
 """
 import pathlib
 import sys
@@ -10,19 +10,22 @@ import sys
 import case_files
 import map_cases
 import sheet_cases
+from formats import T_LISTING, map_t, order
 
-FOLDER = pathlib.Path(__file__).resolve().parent.parent / "crates" / "trials"
+CRATES = pathlib.Path(__file__).resolve().parent.parent / "crates"
+PLAN_FILES = {"plan/data/map": map_t().bytes(), "plan/data/order": order(), "plan/stdout": T_LISTING.encode()}
 
 
 def main():
-    wanted = case_files.files()
+    wanted = {CRATES / file: content for file, content in {**case_files.files(), **PLAN_FILES}.items()}
     if sys.argv[1:] == ["--check"]:
         for file, content in wanted.items():
-            if (FOLDER / file).read_bytes() != content:
-                sys.exit("%s differs from what tests/worked_cases.py writes" % (FOLDER / file))
+            if not file.is_file() or file.read_bytes() != content:
+                sys.exit("%s differs from what tests/worked_cases.py writes" % file)
         return
     for file, content in wanted.items():
-        (FOLDER / file).write_bytes(content)
+        file.parent.mkdir(exist_ok=True)
+        file.write_bytes(content)
     print("%d cases" % len(case_files.CASES))
 
 

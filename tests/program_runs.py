@@ -1,0 +1,144 @@
+#!/usr/bin/env python3
+"""Runs the program `plan` on maps and orders in folders of their own, and compares what it prints, byte for byte.
+
+    tests/program_runs.py             run target/bin/plan, which `rt check plan` builds
+    tests/program_runs.py PROGRAM     run another build of it
+
+The expected text is written by hand from document 01, or given by the brute-force reference.
+"""
+import pathlib
+import random
+import subprocess
+import sys
+import tempfile
+
+import reference
+from formats import EUROPE, T_LISTING, Map, chained, map_t, order
+from made_trips import line, practice_map, small_trip
+
+BUILT = pathlib.Path(__file__).resolve().parent.parent / "target" / "bin" / "plan"
+MOST_BYTES = 65536
+SMALL_TRIPS = 1000
+FOLDER = object()  # in place of a file's bytes: a folder stands there, which cannot be read as a file
+T = map_t().bytes()
+RUNS = []
+
+
+def run(title, expected, trunk=None, orders=None):
+    """A file that is None is missing."""
+    RUNS.append((title, expected, trunk, orders))
+
+
+def with_names(length):
+    """Map T with as many unused name bytes as make it so long."""
+    m = map_t()
+    m.names += b" " * (length - len(T))
+    return m.bytes()
+
+
+def bad_road():
+    m = map_t()
+    m.roads[1][3] = 131
+    return m.bytes()
+
+
+def reference_run(title, first_word, trunk, orders):
+    """The reference gives the text; how it starts is written by hand."""
+    expected = reference.listing(trunk, orders)
+    if not expected.startswith(first_word):
+        sys.exit("%s: the reference prints %s" % (title, expected))
+    run(title, expected, trunk, orders)
+
+
+run("map T", T_LISTING, T, order())
+run("T, latest one second before the arrival", "refused 13 3\n", T, order(w3=20699))
+
+# --- files that are missing, cannot be read or are refused --------------------------------------------
+run("no files", "refused 1 0\n")
+run("a map without an order", "refused 9 0\n", T)
+run("an order without a map", "refused 1 0\n", orders=order())
+run("a folder in the map's place", "refused 1 0\n", FOLDER, order())
+run("a folder in the order's place", "refused 9 0\n", T, FOLDER)
+run("empty files", "refused 1 0\n", b"", b"")
+run("a bad road", "refused 6 2\n", bad_road(), order())
+run("a broken map comes before a missing order", "refused 4 133\n", T + b"x")
+run("an order of 41 bytes", "refused 9 41\n", T, order() + b"x")
+run("an order of 5,000 bytes", "refused 9 5000\n", T, b"x" * 5000)
+run("bad rules", "refused 10 9\n", T, order(w9=0))
+run("bad trip", "refused 11 0\n", T, order(w0=4))
+
+# --- 64 KiB --------------------------------------------------------------------------------------------
+run("map and order of 65,536 bytes", T_LISTING, with_names(MOST_BYTES - 40), order())
+run("a map one byte longer", "too big\n", with_names(MOST_BYTES - 39), order())
+run("an order one byte longer", "too big\n", with_names(MOST_BYTES - 40), order() + b"x")
+run("a map of 65,536 bytes alone", "refused 9 0\n", with_names(MOST_BYTES))
+run("a map of 65,537 bytes alone", "too big\n", with_names(MOST_BYTES + 1))
+run("an order of 65,536 bytes alone", "refused 1 0\n", orders=b"x" * MOST_BYTES)
+run("an order of 65,537 bytes alone", "too big\n", orders=b"x" * (MOST_BYTES + 1))
+run("a map and an order of 200,000 bytes", "too big\n", b"x" * 200000, b"x" * 200000)
+
+# --- listings ------------------------------------------------------------------------------------------
+run("source is target", "arrive 77 5 6 labels 1\n", T, order(w0=2, w1=2, w2=77, w4=5, w5=6))
+REST_MAP = chained([("Start", False), ("First park", True), (" ", True), ("x" * 32, False)], [(1, 2, 162000, 36), (2, 3, 162000, 36), (3, 4, 1000, 36)])
+REST_LISTING = """\
+drive 1 First park 16200
+break 2 First park 18900
+drive 2   35100
+rest 3   74700
+drive 3 xxxxxxxxxxxxxxxxxxxxxxxxxxxxxxxx 74800
+arrive 74800 100 100 labels 9
+"""
+run("a rest, names with spaces, a name of 32 bytes", REST_LISTING, REST_MAP.bytes(), order([1, 4] + EUROPE[2:]))
+run("one name for two junctions", "drive 1 Elgstrup 1\narrive 1 1 1 labels 2\n", Map([[1, 0, 0, 8], [0, 0, 0, 8]], [[1, 2, 1, 130, 0]], b"Elgstrup").bytes(), order(w1=2))
+LINE_LISTING = "".join("drive %d x %d\n" % (k, k) for k in range(1, 1600)) + "arrive 1599 1599 1599 labels 1600\n"
+run("1,600 labels and 1,599 moves", LINE_LISTING, line(1600), order(w1=1600))
+run("1,601 labels", "refused 12 1600\n", line(1601), order(w1=1601))
+PRACTICE = practice_map(1000)
+for target in (5, 17, 500, 1000):
+    reference_run("a practice map of 1,000 junctions, 1 to %d" % target, "drive", PRACTICE, order(w1=target))
+reference_run("a practice map, exactly 1,600 labels", "drive", PRACTICE, order(w1=297))
+reference_run("a practice map, 2,064 labels", "refused 12 1600\n", PRACTICE, order(w1=112))
+
+# --- many small maps, beside the reference -------------------------------------------------------------
+DICE = random.Random(561)
+for k in range(SMALL_TRIPS):
+    trunk, orders = small_trip(DICE)
+    run("small trip %d" % k, reference.listing(trunk, orders), trunk, orders)
+
+
+def lay(folder, name, content):
+    if content is FOLDER:
+        (folder / name).mkdir()
+    elif content is not None:
+        (folder / name).write_bytes(content)
+
+
+def fault(program, expected, trunk, orders):
+    """What is wrong with a run, or None."""
+    with tempfile.TemporaryDirectory() as name:
+        folder = pathlib.Path(name)
+        lay(folder, "map", trunk)
+        lay(folder, "order", orders)
+        done = subprocess.run([program], cwd=folder, stdin=subprocess.DEVNULL, capture_output=True)
+    if done.returncode != 0 or done.stderr:
+        return "it ended with status %d and said %r" % (done.returncode, done.stderr)
+    if done.stdout != expected.encode():
+        return "expected %r, printed %r" % (expected.encode(), done.stdout)
+
+
+def main():
+    program = pathlib.Path(sys.argv[1] if len(sys.argv) > 1 else BUILT).resolve()
+    if not program.is_file():
+        sys.exit("%s is not there: build it with `rt check plan`" % program)
+    faults = 0
+    for title, expected, trunk, orders in RUNS:
+        found = fault(program, expected, trunk, orders)
+        if found is not None:
+            faults += 1
+            print("%s: %s" % (title, found[:600]))
+    if faults:
+        sys.exit("%d of %d runs of the program differ" % (faults, len(RUNS)))
+    print("%d runs of the program print what they must" % len(RUNS))
+
+
+main()
