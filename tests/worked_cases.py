@@ -9,6 +9,7 @@ import sys
 
 import case_files
 import map_cases
+import plan_cases
 import sheet_cases
 from formats import T_LISTING, map_t, order
 

@@ -1,13 +1,25 @@
 // Runs worked cases of every operation, and prints each one's answer.
 //
-// A case on standard input: its kind, the length of its title, the title, four words (a number, and
-// the lengths of map, order and sheet), the map, the order, the sheet. The number is the junction
-// asked for a name, the junction count for an order, the length of the lent sheet for retiming.
+// A case on standard input: its kind, the length of its title, the title, five words (a number, the
+// words of label space, and the lengths of map, order and sheet), the map, the order, the sheet. The
+// number is the junction asked for a name, the junction count for an order, the length of the lent
+// sheet for retiming, and for planning what every label word holds beforehand. The sheet of planning
+// is the one that is lent.
 ghost use Prim.Native.Nat.{_≤_, _<_};
 ghost use lib.ListN.{length};
 use libc::STDIN_FILENO;
 use libc::STDOUT_FILENO;
 use replies::Reply;
+
+// Refusals below this number are given before the search, and leave the label space as it was.
+const FIRST_OF_SEARCH: u32 = 12;
+
+// What a case says beside its bytes.
+struct Case {
+    kind: u8,
+    number: u32,
+    words: u32,
+}
 
 fn print(text: &[u8]) {
     io::write_all(STDOUT_FILENO, text);
@@ -56,26 +68,54 @@ fn mark(sheet: &mut [u8]) {
     }
 }
 
-fn run_on_map(kind: u8, number: u32, map: &mut [u8]) {
-    if kind == b'm' {
+// Copies as many bytes as both have.
+fn copy(from: &[u8], to: &mut [u8]) {
+    let mut i = 0;
+    while i < from.len() && i < to.len() {
+        to[i] = from[i];
+        i += 1;
+    }
+}
+
+fn fill(words: &mut [u32], value: u32) {
+    let mut i = 0;
+    while i < words.len() {
+        words[i] = value;
+        i += 1;
+    }
+}
+
+fn all_are(words: &[u32], value: u32) -> bool {
+    let mut i = 0;
+    while i < words.len() {
+        if words[i] != value {
+            return false;
+        }
+        i += 1;
+    }
+    true
+}
+
+fn run_on_map(case: Case, map: &mut [u8]) {
+    if case.kind == b'm' {
         print_reply(mapcheck::check_map(map).reply());
     }
-    if kind == b'n' {
-        print_reply(mapedit::name_reply(map, number).reply());
+    if case.kind == b'n' {
+        print_reply(mapedit::name_reply(map, case.number).reply());
         print(b" <");
-        print(mapedit::name(map, number));
+        print(mapedit::name(map, case.number));
         print(b">");
     }
-    if kind == b'c' {
+    if case.kind == b'c' {
         print_reply(mapedit::make_chains(map).reply());
         print(b" ");
         print_bytes(map);
     }
 }
 
-fn run_on_order(kind: u8, number: u32, order: &[u8]) {
-    if kind == b'o' {
-        print_reply(driving::check_order(order, number).reply());
+fn run_on_order(case: Case, order: &[u8]) {
+    if case.kind == b'o' {
+        print_reply(driving::check_order(order, case.number).reply());
     }
 }
 
@@ -86,79 +126,152 @@ fn retime_marked(map: &[u8], order: &[u8], sheet: &[u8], lent: &mut [u8]) {
     print_bytes(lent);
 }
 
-fn run_on_sheet(kind: u8, number: u32, map: &[u8], order: &[u8], sheet: &[u8], space: &mut [u8]) {
-    if kind == b'a' {
+fn run_on_sheet(case: Case, map: &[u8], order: &[u8], sheet: &[u8], space: &mut [u8]) {
+    if case.kind == b'a' {
         print_reply(retiming::audit(map, order, sheet).reply());
     }
-    let lent = number as usize;
-    if kind == b'r' && lent <= space.len() {
+    let lent = case.number as usize;
+    if case.kind == b'r' && lent <= space.len() {
         retime_marked(map, order, sheet, &mut space[0..lent]);
     }
 }
 
+// Where a refusal came before the search, whether every label word is as it was.
+fn print_kept(number: u32, words: &[u32], before: u32) {
+    if number == 0 || FIRST_OF_SEARCH <= number {
+        return;
+    }
+    if all_are(words, before) {
+        print(b" kept");
+    } else {
+        print(b" changed");
+    }
+}
+
+// Plans with label words that all hold `before`, and a lent sheet that holds the case's.
+fn plan_filled(
+    before: u32,
+    map: &[u8],
+    order: &[u8],
+    sheet: &[u8],
+    words: &mut [u32],
+    lent: &mut [u8],
+) {
+    fill(words, before);
+    copy(sheet, lent);
+    let reply = planner::plan(map, order, words, lent).reply();
+    print_reply(reply);
+    print(b" ");
+    print_bytes(lent);
+    print_kept(reply.number, words, before);
+}
+
+fn run_planning(
+    case: Case,
+    map: &[u8],
+    order: &[u8],
+    sheet: &[u8],
+    space: &mut [u8],
+    labels: &mut [u32],
+) {
+    let lent = sheet.len();
+    let words = case.words as usize;
+    if lent <= space.len() && words <= labels.len() {
+        plan_filled(
+            case.number,
+            map,
+            order,
+            sheet,
+            &mut labels[0..words],
+            &mut space[0..lent],
+        );
+    }
+}
+
 // Runs a case on its bytes: the map, then the order from `order` on, then the sheet from `sheet` on.
-fn run(kind: u8, number: u32, bytes: &mut [u8], order: usize, sheet: usize, space: &mut [u8])
+fn run(
+    case: Case,
+    bytes: &mut [u8],
+    order: usize,
+    sheet: usize,
+    space: &mut [u8],
+    labels: &mut [u32],
+)
     requires { ⌜ (order ≤ sheet) × (sheet ≤ length (now bytes)) ⌝ }
 {
     let end = bytes.len();
+    if case.kind == b'p' {
+        run_planning(
+            case,
+            &bytes[0..order],
+            &bytes[order..sheet],
+            &bytes[sheet..end],
+            space,
+            labels,
+        );
+        return;
+    }
     run_on_sheet(
-        kind,
-        number,
+        case,
         &bytes[0..order],
         &bytes[order..sheet],
         &bytes[sheet..end],
         space,
     );
-    run_on_order(kind, number, &bytes[order..sheet]);
-    run_on_map(kind, number, &mut bytes[0..order]);
+    run_on_order(case, &bytes[order..sheet]);
+    run_on_map(case, &mut bytes[0..order]);
 }
 
 // Runs the case that starts at `at` of the first n bytes, and returns where the next one starts.
-fn run_case(cases: &mut [u8], n: usize, at: usize, space: &mut [u8]) -> usize
+fn run_case(cases: &mut [u8], n: usize, at: usize, space: &mut [u8], labels: &mut [u32]) -> usize
     requires { ⌜ (n ≤ length (now cases)) × (at < n) ⌝ }
     ensures { λ r. ⌜ at < r ⌝ }
 {
     if n - at < 2 {
         return n;
     }
-    let kind = cases[at];
     let title = at + 2;
     let header = title + count_of(cases[at + 1]);
-    if n < header + 16 {
+    if n < header + 20 {
         return n;
     }
-    let number = words::word(cases, header);
-    let map = header + 16;
-    let order = map + (words::word(cases, header + 4) as usize);
-    let sheet = order + (words::word(cases, header + 8) as usize);
-    let end = sheet + (words::word(cases, header + 12) as usize);
+    let case = Case {
+        kind: cases[at],
+        number: words::word(cases, header),
+        words: words::word(cases, header + 4),
+    };
+    let map = header + 20;
+    let order = map + (words::word(cases, header + 8) as usize);
+    let sheet = order + (words::word(cases, header + 12) as usize);
+    let end = sheet + (words::word(cases, header + 16) as usize);
     if n < end {
         return n;
     }
     print(&cases[title..header]);
     print(b": ");
     run(
-        kind,
-        number,
+        case,
         &mut cases[map..end],
         order - map,
         sheet - map,
         space,
+        labels,
     );
     print(b"\n");
     end
 }
 
-fn run_all(cases: &mut [u8], space: &mut [u8]) {
+fn run_all(cases: &mut [u8], space: &mut [u8], labels: &mut [u32]) {
     let n = io::read_full(STDIN_FILENO, cases);
     let mut at = 0;
     while at < n {
-        at = run_case(cases, n, at, space);
+        at = run_case(cases, n, at, space, labels);
     }
 }
 
 fn main() {
-    let mut cases = [0u8; 65536];
-    let mut sheet = [0u8; 128];
-    run_all(&mut cases, &mut sheet);
+    let mut cases = [0u8; 131072];
+    let mut sheet = [0u8; 1024];
+    let mut labels = [0u32; 4096];
+    run_all(&mut cases, &mut sheet, &mut labels);
 }

@@ -20,8 +20,9 @@ fn answer_next(stored: &mut &[u8]) -> String {
     let kind = take(stored, 1)[0];
     let title_length = usize::from(take(stored, 1)[0]);
     let title = String::from_utf8_lossy(take(stored, title_length));
-    let figures = take(stored, 16);
-    let [number, map, order, sheet] = [0, 4, 8, 12].map(|offset| word(figures, offset) as usize);
+    let figures = take(stored, 20);
+    let [number, label_words, map, order, sheet] =
+        [0, 4, 8, 12, 16].map(|offset| word(figures, offset) as usize);
     let [map, order, sheet] = [map, order, sheet].map(|length| take(stored, length));
     let answer = match kind {
         b'm' => line((DOCUMENT.check_map)(map)),
@@ -44,9 +45,23 @@ fn answer_next(stored: &mut &[u8]) -> String {
             format!("{} {}", line(reply), hexadecimal(&out))
         }
         b'a' => line((DOCUMENT.audit)(map, order, sheet)),
+        b'p' => planned(map, order, vec![number as u32; label_words], sheet),
         other => format!("unknown kind {other}"),
     };
     format!("{title}: {answer}\n")
+}
+
+/// The reply, the sheet afterwards and, where the search was not begun, whether the label words stayed.
+fn planned(map: &[u8], order: &[u8], before: Vec<u32>, sheet: &[u8]) -> String {
+    let mut words = before.clone();
+    let mut lent = sheet.to_vec();
+    let reply = (DOCUMENT.plan)(map, order, &mut words, &mut lent);
+    let stayed = match reply.number {
+        1..=11 if words == before => " kept",
+        1..=11 => " changed",
+        _ => "",
+    };
+    format!("{} {}{stayed}", line(reply), hexadecimal(&lent))
 }
 
 fn take<'a>(stored: &mut &'a [u8], length: usize) -> &'a [u8] {

@@ -1,0 +1,239 @@
+"""Worked cases of planning.
+
+Replies, figures and rows are written here by hand from document 01, and the brute-force reference must
+agree with each case that reaches the search. In a `computed` case only the reply's number is written
+by hand, and the reference gives the rest. Nothing is taken from the program. Where roads come back to
+a junction, latest is near, so that a planner that lists every reachable state can answer too.
+"""
+import reference
+from case_files import case
+from formats import ALL_BITS, BREAK, DRIVE, EUROPE, REST, chained, map_t, order, sheet, words
+from made_trips import line, practice_map
+
+T = map_t().bytes()
+T_ROWS = [(DRIVE, 1, 10800), (BREAK, 2, 13500), (DRIVE, 2, 20700)]
+T_ANSWER = (20700, 7200, 18000)
+PARK, NO_PARK = True, False
+MARK = 0xEEEEEEEE
+
+
+def plan(title, trunk, orders, reply, written, label_words, length, before):
+    """The sheet lent is `length` bytes of 0xEE, and every label word holds `before`."""
+    lent = b"\xee" * length
+    after = written + lent[len(written) :]
+    number = int(reply.split()[0])
+    if number == 0 or number >= 12:
+        computed_reply, computed_sheet = reference.planning(trunk, orders, label_words, lent)
+        if ("%d %d %d" % computed_reply, computed_sheet) != (reply, after):
+            raise SystemExit("%s: the reference replies %s" % (title, computed_reply))
+    answer = reply + " " + after.hex() + (" kept" if 1 <= number <= 11 else "")
+    case("p", title, answer, number=before, label_words=label_words, trunk=trunk, order=orders, sheet=lent)
+
+
+def planned(title, trunk, orders, labels, answer, rows, label_words=None, length=None, before=MARK):
+    """Room for exactly the plan's labels, and a sheet with four bytes more than it needs, if not told otherwise."""
+    arrival, spell, shift = answer
+    written = sheet(rows, arrival, spell, shift, labels)
+    label_words = 8 * labels if label_words is None else label_words
+    length = len(written) + 4 if length is None else length
+    plan(title, trunk, orders, "0 %d %d" % (labels, arrival), written, label_words, length, before)
+
+
+def refused(title, trunk, orders, number, place, label_words=80, length=80, before=MARK):
+    plan(title, trunk, orders, "%d %d 0" % (number, place), b"", label_words, length, before)
+
+
+def computed(title, number, trunk, orders, label_words=1600, length=400):
+    reply, after = reference.planning(trunk, orders, label_words, b"\xee" * length)
+    if reply[0] != number:
+        raise SystemExit("%s: the reference replies %s" % (title, reply))
+    plan(title, trunk, orders, "%d %d %d" % reply, after, label_words, length, MARK)
+
+
+def trip_map(parks, roads):
+    """Junctions named A, B, .. and roads (from, to, seconds), at 36 km/h: ten metres a second."""
+    names = "ABCDEFGHIJKLMNOPQRSTUVWXYZ"
+    return chained(
+        [(names[j], park) for j, park in enumerate(parks)], [(a, b, 10 * s, 36) for a, b, s in roads]
+    ).bytes()
+
+
+def one_road(metres, speed):
+    return chained([("A", NO_PARK), ("B", NO_PARK)], [(1, 2, metres, speed)]).bytes()
+
+
+ONE_TO_TWO = [1, 2] + EUROPE[2:]
+ONE_TO_FOUR = [1, 4] + EUROPE[2:]
+
+# --- document 01's trial trips -------------------------------------------------------------------
+planned("T, four labels", T, order(), 4, T_ANSWER, T_ROWS)
+refused("T, three labels: full", T, order(), 12, 3, label_words=24)
+planned("T, latest 20,700", T, order(w3=20700), 4, T_ANSWER, T_ROWS)
+refused("T, latest 20,699: no road", T, order(w3=20699), 13, 3)
+planned("T, sheet of 56 bytes", T, order(), 4, T_ANSWER, T_ROWS, length=56)
+refused("T, sheet of 55 bytes", T, order(), 14, 56, length=55)
+planned("1 m at 130 takes 1 second", one_road(1, 130), order(ONE_TO_TWO), 2, (1, 1, 1), [(DRIVE, 1, 1)])
+planned("1,250 m at 90 take 50 seconds", one_road(1250, 90), order(ONE_TO_TWO), 2, (50, 50, 50), [(DRIVE, 1, 50)])
+planned("1,251 m at 90 take 51 seconds", one_road(1251, 90), order(ONE_TO_TWO), 2, (51, 51, 51), [(DRIVE, 1, 51)])
+planned("spell 9,000 and a 7,200 road", one_road(160000, 80), order(ONE_TO_TWO, w4=9000, w5=9000), 2, (7200, 16200, 16200), [(DRIVE, 1, 7200)])
+refused("spell 9,001 and a 7,200 road", one_road(160000, 80), order(ONE_TO_TWO, w4=9001, w5=9001), 13, 1)
+
+# --- label space and sheet -----------------------------------------------------------------------
+planned("T, room for 512 labels", T, order(), 4, T_ANSWER, T_ROWS, label_words=4096)
+planned("T, 8N + 7 words", T, order(), 4, T_ANSWER, T_ROWS, label_words=39)
+refused("T, one word too few", T, order(), 12, 3, label_words=31)
+refused("T, 7 words: no label fits", T, order(), 12, 0, label_words=7)
+refused("T, no words", T, order(), 12, 0, label_words=0)
+planned("T, label words of zeros", T, order(), 4, T_ANSWER, T_ROWS, before=0)
+planned("T, label words of ones", T, order(), 4, T_ANSWER, T_ROWS, before=1)
+planned("T, label words of all bits", T, order(), 4, T_ANSWER, T_ROWS, before=ALL_BITS)
+planned("T, a long sheet keeps its tail", T, order(), 4, T_ANSWER, T_ROWS, length=200)
+refused("T, no sheet", T, order(), 14, 56, length=0)
+refused("T, sheet of the header alone", T, order(), 14, 56, length=20)
+refused("no room and no sheet: full", T, order(), 12, 3, label_words=24, length=0)
+refused("no room and no journey: full", T, order(w3=20699), 12, 2, label_words=16)
+refused("no journey and room for exactly its labels", T, order(w3=20699), 13, 3, label_words=24)
+refused("no journey and no sheet: no road", T, order(w3=20699), 13, 3, length=0)
+
+# --- source is target ----------------------------------------------------------------------------
+HOME = order(w0=2, w1=2, w2=77, w4=5, w5=6)
+planned("source is target", T, HOME, 1, (77, 5, 6), [])
+planned("source is target, 20 bytes and 8 words", T, HOME, 1, (77, 5, 6), [], label_words=8, length=20)
+refused("source is target, 19 bytes", T, HOME, 14, 20, length=19)
+refused("source is target, no label fits", T, HOME, 12, 0, label_words=7)
+planned("source is target on a map without roads", chained([("A", NO_PARK)], []).bytes(), order(w1=1), 1, (0, 0, 0), [])
+LAST_SECOND = [2, 2, 2000000000, 2000000000] + EUROPE[4:]
+planned("departure at 2,000,000,000, source is target", T, order(LAST_SECOND), 1, (2000000000, 0, 0), [])
+refused("departure at 2,000,000,000, one road away", T, order(LAST_SECOND, w1=3), 13, 1)
+planned(
+    "arrival at 2,000,000,000",
+    T,
+    order(w2=1999979300, w3=2000000000),
+    4,
+    (2000000000, 7200, 18000),
+    [(DRIVE, 1, 1999990100), (BREAK, 2, 1999992800), (DRIVE, 2, 2000000000)],
+)
+planned("a later departure", T, order(w2=1000), 4, (21700, 7200, 18000), [(DRIVE, 1, 11800), (BREAK, 2, 14500), (DRIVE, 2, 21700)])
+
+# --- no journey: every label counts --------------------------------------------------------------
+refused("no road leaves the source", T, order(w0=3, w1=1), 13, 1)
+refused("from Lay back to Hub: Lay and End", T, order(w0=2, w1=1), 13, 2)
+refused("a tired driver's pauses at source count too", T, order(w0=2, w1=1, w4=9000, w5=9000), 13, 6)
+refused("no roads at all", chained([("A", PARK), ("B", PARK)], []).bytes(), order(ONE_TO_TWO), 13, 1)
+refused("a road longer than the spell limit", one_road(2000000, 5), order(ONE_TO_TWO, w3=2000000000), 13, 1)
+
+# --- the slower lorry keeps its hours --------------------------------------------------------------
+# C is reached at 10,000 after 10,000 at the wheel, and by way of the car park B at 13,000 after only
+# 300: neither dominates, and only the slower one may drive on for 7,000.
+HOURS = trip_map([NO_PARK, PARK, NO_PARK, NO_PARK], [(1, 3, 10000), (1, 2, 10000), (2, 3, 300), (3, 4, 7000)])
+planned(
+    "the slower lorry that keeps its hours",
+    HOURS,
+    order(ONE_TO_FOUR),
+    6,
+    (20000, 7300, 17300),
+    [(DRIVE, 2, 10000), (BREAK, 2, 12700), (DRIVE, 3, 13000), (DRIVE, 4, 20000)],
+)
+refused("the slower lorry, one label too few", HOURS, order(ONE_TO_FOUR), 12, 5, label_words=47)
+planned("the faster lorry where the last road is short", trip_map([NO_PARK, PARK, NO_PARK, NO_PARK], [(1, 3, 10000), (1, 2, 10000), (2, 3, 300), (3, 4, 6200)]), order(ONE_TO_FOUR), 6, (16200, 16200, 16200), [(DRIVE, 1, 10000), (DRIVE, 4, 16200)])
+
+# --- ties -------------------------------------------------------------------------------------------
+STAR = trip_map([NO_PARK] * 4, [(1, 4, 100), (1, 3, 100), (1, 2, 100)])
+planned("equal figures: lower junctions count, target B", STAR, order(w1=2), 2, (100, 100, 100), [(DRIVE, 3, 100)])
+planned("equal figures: lower junctions count, target C", STAR, order(w1=3), 3, (100, 100, 100), [(DRIVE, 2, 100)])
+planned("equal figures: lower junctions count, target D", STAR, order(w1=4), 4, (100, 100, 100), [(DRIVE, 1, 100)])
+planned("parallel roads: the lowest of the fastest", trip_map([NO_PARK] * 2, [(1, 2, 200), (1, 2, 100), (1, 2, 100)]), order(ONE_TO_TWO), 2, (100, 100, 100), [(DRIVE, 2, 100)])
+planned("parallel roads with other roads between", trip_map([NO_PARK] * 3, [(1, 3, 500), (2, 1, 100), (1, 2, 100), (2, 3, 100), (1, 2, 100), (2, 3, 100)]), order(), 3, (200, 200, 200), [(DRIVE, 3, 100), (DRIVE, 4, 200)])
+planned("two parents: the earlier one", trip_map([NO_PARK] * 4, [(1, 2, 100), (1, 3, 200), (2, 4, 200), (3, 4, 100)]), order(ONE_TO_FOUR), 4, (300, 300, 300), [(DRIVE, 1, 100), (DRIVE, 3, 300)])
+planned("two parents: the earlier one has the higher number", trip_map([NO_PARK] * 4, [(1, 2, 200), (1, 3, 100), (2, 4, 100), (3, 4, 200)]), order(ONE_TO_FOUR), 4, (300, 300, 300), [(DRIVE, 2, 100), (DRIVE, 4, 300)])
+planned("two parents of equal figures: the lower junction", trip_map([NO_PARK] * 4, [(1, 3, 100), (1, 2, 100), (3, 4, 50), (2, 4, 50)]), order(ONE_TO_FOUR), 4, (150, 150, 150), [(DRIVE, 2, 100), (DRIVE, 4, 150)])
+planned("the start as parent: one road beats two of the same total", trip_map([NO_PARK] * 3, [(1, 2, 100), (2, 3, 100), (1, 3, 200)]), order(), 3, (200, 200, 200), [(DRIVE, 3, 200)])
+planned("two roads that are faster than the direct one", trip_map([NO_PARK] * 3, [(1, 3, 10000), (1, 2, 3000), (2, 3, 3000)]), order(), 3, (6000, 6000, 6000), [(DRIVE, 2, 3000), (DRIVE, 3, 6000)])
+planned(
+    "equal arrivals: the lower spell",
+    trip_map([NO_PARK, PARK, PARK, NO_PARK], [(1, 2, 10000), (2, 4, 10000), (1, 3, 15000), (3, 4, 5000)]),
+    order(ONE_TO_FOUR),
+    6,
+    (22700, 5000, 20000),
+    [(DRIVE, 3, 15000), (BREAK, 3, 17700), (DRIVE, 4, 22700)],
+)
+planned("break as long as the rest: the rest clears more", T, order(w9=2700), 4, (20700, 7200, 7200), [(DRIVE, 1, 10800), (REST, 2, 13500), (DRIVE, 2, 20700)])
+
+# --- pauses -----------------------------------------------------------------------------------------
+AWAY = trip_map([PARK, PARK], [(1, 2, 10000)])
+planned("a break at source", AWAY, order(ONE_TO_TWO, w4=9000, w5=9000), 3, (12700, 10000, 19000), [(BREAK, 1, 2700), (DRIVE, 1, 12700)])
+planned("a rest at source", AWAY, order(ONE_TO_TWO, w5=32400), 3, (49600, 10000, 10000), [(REST, 1, 39600), (DRIVE, 1, 49600)])
+planned("no pause at a target that is a car park", AWAY, order(ONE_TO_TWO), 2, (10000, 10000, 10000), [(DRIVE, 1, 10000)])
+refused("a tired driver where no car park is", trip_map([NO_PARK, PARK], [(1, 2, 10000)]), order(ONE_TO_TWO, w4=9000, w5=9000), 13, 1)
+refused("a break that ends after latest", AWAY, order(ONE_TO_TWO, w3=2699, w4=9000, w5=9000), 13, 1)
+CHAIN = trip_map([NO_PARK, PARK, PARK, NO_PARK], [(1, 2, 16200), (2, 3, 16200), (3, 4, 100)])
+planned(
+    "spell and shift limits met exactly, then a rest",
+    CHAIN,
+    order(ONE_TO_FOUR),
+    9,
+    (74800, 100, 100),
+    [(DRIVE, 1, 16200), (BREAK, 2, 18900), (DRIVE, 2, 35100), (REST, 3, 74700), (DRIVE, 3, 74800)],
+)
+planned(
+    "shift limit one second lower: the rest comes earlier",
+    CHAIN,
+    order(ONE_TO_FOUR, w8=32399),
+    7,
+    (74800, 100, 16300),
+    [(DRIVE, 1, 16200), (REST, 2, 55800), (DRIVE, 2, 72000), (BREAK, 3, 74700), (DRIVE, 3, 74800)],
+)
+planned(
+    "shift limit of all three roads: two breaks",
+    CHAIN,
+    order(ONE_TO_FOUR, w8=32500),
+    6,
+    (37900, 100, 32500),
+    [(DRIVE, 1, 16200), (BREAK, 2, 18900), (DRIVE, 2, 35100), (BREAK, 3, 37800), (DRIVE, 3, 37900)],
+)
+planned("a road that meets the spell limit", one_road(360000, 80), order(ONE_TO_TWO), 2, (16200, 16200, 16200), [(DRIVE, 1, 16200)])
+refused("a road one second above the spell limit", one_road(360001, 80), order(ONE_TO_TWO), 13, 1)
+refused("a road that meets the shift limit but for the hours behind", one_road(360000, 80), order(ONE_TO_TWO, w5=16201), 13, 1)
+planned("a road that meets the shift limit with the hours behind", one_road(360000, 80), order(ONE_TO_TWO, w5=16200), 2, (16200, 16200, 32400), [(DRIVE, 1, 16200)])
+
+# --- roads to their own junction --------------------------------------------------------------------
+planned("roads to their own junction are no labels", trip_map([PARK, NO_PARK], [(1, 1, 10), (1, 2, 100), (2, 2, 10), (1, 1, 5)]), order(ONE_TO_TWO, w3=150), 2, (100, 100, 100), [(DRIVE, 2, 100)])
+refused("a road to its own junction is no journey", trip_map([PARK, NO_PARK], [(1, 1, 10)]), order(ONE_TO_TWO, w3=300), 13, 1)
+planned("a ring of roads", trip_map([NO_PARK] * 3, [(1, 2, 10), (2, 1, 10), (2, 3, 10), (3, 1, 10)]), order(w3=100), 3, (20, 20, 20), [(DRIVE, 1, 10), (DRIVE, 3, 20)])
+
+# --- refusals before the search: label words and sheet stay -----------------------------------------
+
+
+def in_t(offset, *values):
+    given = words(*values)
+    return T[:offset] + given + T[offset + len(given) :]
+
+
+refused("short map", T[:15], order(), 1, 15)
+refused("no map, no order, no label space, no sheet", b"", b"", 1, 0, label_words=0, length=0)
+refused("strange map", in_t(0, 2), order(), 2, 0)
+refused("oversize", in_t(8, 262144), order(), 3, 8)
+refused("misfit", T + b"x", order(), 4, 133)
+refused("bad junction", in_t(36, 2), order(), 5, 2)
+refused("bad road", in_t(76, 4), order(), 6, 1)
+refused("broken chain", in_t(80, 0), order(), 7, 3)
+refused("bad lettering", T[:-1] + b"\x7f", order(), 8, 132)
+refused("an order of 39 bytes", T, order()[:-1], 9, 39)
+refused("an order of 41 bytes", T, order() + b"x", 9, 41)
+refused("bad rules", T, order(w7=0), 10, 7)
+refused("bad trip", T, order(w1=4), 11, 1)
+refused("bad trip before full and short sheet", T, order(w4=16201, w5=16201), 11, 4, label_words=7, length=0)
+refused("bad lettering before bad order", T[:-1] + b"\x7f", b"", 8, 132, label_words=9, before=0)
+
+# --- longer trips, from the reference -----------------------------------------------------------------
+LINE_END = [1, 40, 5, 44] + EUROPE[4:]
+computed("a line of forty junctions", 0, line(40), order(LINE_END), label_words=320, length=488)
+computed("a line of forty junctions, a label short", 12, line(40), order(LINE_END), label_words=319, length=488)
+computed("a line of forty junctions, a byte short", 14, line(40), order(LINE_END), label_words=320, length=487)
+computed("a line of forty junctions, a second short", 13, line(40), order(LINE_END, w3=43), label_words=320)
+PRACTICE = practice_map(60)
+for target, latest in ((15, 14000), (30, 12000), (60, 14000)):
+    computed("a practice map of 60 junctions, 1 to %d" % target, 0, PRACTICE, order(w1=target, w3=latest))
+TIRED = [18, 30, 0, 59000, 16000, 32000] + EUROPE[6:]
+computed("a practice map, a rest at source and a break on the way", 0, PRACTICE, order(TIRED))
+computed("a practice map, on to the next car park before the rest", 0, PRACTICE, order(TIRED, w0=57, w1=45, w3=48000))
