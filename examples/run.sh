@@ -1,6 +1,7 @@
 #!/usr/bin/env bash
-# Proves and builds the static library, builds and runs the C example, tests the Rust wrapper and runs its example.
-# Both examples must print examples/plan_map_t.expected. Needs rt, a C compiler and cargo; no network.
+# Proves and builds the static library, builds and runs the C example, tests the Rust wrapper and runs its examples.
+# The examples for map T must print examples/plan_map_t.expected; a map made, planned, kept and audited must be map T
+# with its plan. Needs rt, a C compiler and cargo; no network.
 set -eu
 cd "$(dirname "$0")/.."
 rt staticlib trunk >/dev/null
@@ -16,3 +17,16 @@ cargo test --quiet --offline --manifest-path rust/Cargo.toml
 cargo run --quiet --offline --manifest-path rust/Cargo.toml --example plan_map_t | tee target/examples/from_rust
 diff target/examples/from_rust examples/plan_map_t.expected
 echo "Rust: as expected"
+
+cargo build --quiet --offline --manifest-path rust/Cargo.toml --examples
+made=target/examples rust=target/rust/debug/examples order=crates/plan/data/order
+"$rust/make_map" "$made/map"
+cmp "$made/map" crates/plan/data/map
+{
+    "$rust/plan_files" "$made/map" "$order" "$made/sheet"
+    "$rust/kept_sheet" audit "$made/map" "$order" "$made/sheet"
+    "$rust/kept_sheet" retime "$made/map" "$order" "$made/sheet" "$made/new_sheet"
+} | tee "$made/kept"
+printf 'planned 4 20700\naudited 3 20700\nretimed 3 20700\n' | diff "$made/kept" -
+cmp "$made/sheet" "$made/new_sheet"
+echo "Map made, planned, audited and retimed: as expected"

@@ -10,7 +10,7 @@ use trunk::Refused;
 
 /// What the gate runs.
 const SEED: u64 = 1;
-const COUNT: u64 = 6_000;
+const COUNT: u64 = 8_000;
 
 const LIBRARY: Operations = Operations {
     check_map: |map| checked(trunk::check_map(map)),
