@@ -3,56 +3,13 @@
 use std::process::ExitCode;
 use std::time::Instant;
 
+use differential::LIBRARY;
 use other::compare::compare;
-use other::operations::{NameAnswer, Operations, DOCUMENT};
-use other::reply::Reply;
-use trunk::Refused;
+use other::operations::DOCUMENT;
 
 /// What the gate runs.
 const SEED: u64 = 1;
-const COUNT: u64 = 8_000;
-
-const LIBRARY: Operations = Operations {
-    check_map: |map| checked(trunk::check_map(map)),
-    plan: |map, order, words, sheet| match trunk::plan(map, order, words, sheet) {
-        Ok(planned) => Reply::success(planned.labels, planned.arrival),
-        Err(refused) => told(refused),
-    },
-    retime: |map, order, sheet, out| timed(trunk::retime(map, order, sheet, out)),
-    audit: |map, order, sheet| timed(trunk::audit(map, order, sheet)),
-    name: named,
-    make_chains: |map| checked(trunk::make_chains(map)),
-};
-
-fn told(refused: Refused) -> Reply {
-    Reply::refused(refused.refusal.number(), refused.place)
-}
-
-fn checked(answer: Result<(), Refused>) -> Reply {
-    match answer {
-        Ok(()) => Reply::success(0, 0),
-        Err(refused) => told(refused),
-    }
-}
-
-fn timed(answer: Result<trunk::Timed, Refused>) -> Reply {
-    match answer {
-        Ok(timed) => Reply::success(timed.moves, timed.arrival),
-        Err(refused) => told(refused),
-    }
-}
-
-/// The part's offset is where it stands in the map.
-fn named(map: &[u8], junction: u32) -> NameAnswer {
-    match trunk::name(map, junction) {
-        Ok(part) => {
-            let offset = part.as_ptr() as usize - map.as_ptr() as usize;
-            let reply = Reply::success(part.len() as u64, 0);
-            (reply, offset, part.len())
-        }
-        Err(refused) => (told(refused), 0, 0),
-    }
-}
+const COUNT: u64 = 6_000;
 
 fn arguments() -> Result<(u64, u64), String> {
     let given: Vec<String> = std::env::args().skip(1).collect();

@@ -8,9 +8,9 @@ use bench::maps::NamedMap;
 use other::reply::Reply;
 use other::{mapcheck, retiming};
 
-use crate::library;
 use crate::table::{brief, grouped, ratio_text, Table};
 use crate::timing::{best_of, nanoseconds_each, ratio, take};
+use differential::LIBRARY;
 
 /// Nanoseconds per road, unless the replies differ.
 pub fn print_map_checks(runs: usize, maps: &[NamedMap]) -> Result<(), String> {
@@ -19,7 +19,7 @@ pub fn print_map_checks(runs: usize, maps: &[NamedMap]) -> Result<(), String> {
         let bytes = &map.bytes[..];
         agree(
             &map.name,
-            library::check_map(bytes),
+            (LIBRARY.check_map)(bytes),
             mapcheck::check_map(bytes),
         )?;
         let [library, other] = map_check_times(runs, bytes);
@@ -49,7 +49,7 @@ fn agree(what: &str, library: Reply, other: Reply) -> Result<(), String> {
 fn map_check_times(runs: usize, map: &[u8]) -> [Duration; 2] {
     best_of(
         runs,
-        [&mut || take(library::check_map(map)), &mut || {
+        [&mut || take((LIBRARY.check_map)(map)), &mut || {
             take(mapcheck::check_map(map))
         }],
     )
@@ -86,7 +86,7 @@ fn sheet_times(runs: usize, map: &[u8], journey: &Journey) -> Result<[[Duration;
     let mut other_out = vec![0; sheet.len()];
     agree(
         "retiming",
-        library::retime(map, order, sheet, &mut out),
+        (LIBRARY.retime)(map, order, sheet, &mut out),
         retiming::retime(map, order, sheet, &mut other_out),
     )?;
     if out != sheet || other_out != sheet {
@@ -94,15 +94,15 @@ fn sheet_times(runs: usize, map: &[u8], journey: &Journey) -> Result<[[Duration;
     }
     agree(
         "audit",
-        library::audit(map, order, sheet),
+        (LIBRARY.audit)(map, order, sheet),
         retiming::audit(map, order, sheet),
     )?;
     let [library_retime, other_retime, library_audit, other_audit] = best_of(
         runs,
         [
-            &mut || take(library::retime(map, order, sheet, &mut out)),
+            &mut || take((LIBRARY.retime)(map, order, sheet, &mut out)),
             &mut || take(retiming::retime(map, order, sheet, &mut other_out)),
-            &mut || take(library::audit(map, order, sheet)),
+            &mut || take((LIBRARY.audit)(map, order, sheet)),
             &mut || take(retiming::audit(map, order, sheet)),
         ],
     );

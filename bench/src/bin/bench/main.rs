@@ -2,7 +2,6 @@
 //! a reply that differs ends it; no time does.
 
 mod checks;
-mod library;
 mod planning;
 mod table;
 mod timing;

@@ -11,9 +11,9 @@ use bench::trips::NamedTrip;
 use other::planning::{MOST_LABELS, WORDS_OF_A_LABEL};
 use other::sheet::sheet_bytes;
 
-use crate::library;
 use crate::table::{brief, grouped, ratio_text, Table};
 use crate::timing::{best_of, nanoseconds_each, ratio, take};
+use differential::LIBRARY;
 
 const LONGEST_PLAN: usize = 100_000;
 
@@ -96,7 +96,7 @@ impl Planners {
 
     /// N, where all three plan alike: the same moves, figures and N.
     fn agreed_labels(&mut self, on: &Prepared) -> Result<u64, String> {
-        let reply = library::plan(on.map, &on.order, &mut self.words, &mut self.sheet);
+        let reply = (LIBRARY.plan)(on.map, &on.order, &mut self.words, &mut self.sheet);
         let library = Answer::told(&reply, &self.sheet)?;
         let ordinary = self.ordinary.plan(&on.graph, &on.trip);
         let strong = self.strong.plan(&on.compact_graph, &on.trip);
@@ -120,10 +120,10 @@ impl Planners {
         let best = best_of(
             runs,
             [
-                &mut || take(library::plan(on.map, &on.order, words, sheet)),
+                &mut || take((LIBRARY.plan)(on.map, &on.order, words, sheet)),
                 &mut || take(ordinary.plan(&on.graph, &on.trip)),
                 &mut || take(strong.plan(&on.compact_graph, &on.trip)),
-                &mut || take(library::check_map(on.map)),
+                &mut || take((LIBRARY.check_map)(on.map)),
                 &mut || take(ordinary::Graph::new(on.map)),
                 &mut || take(strong::Graph::new(on.map)),
             ],
