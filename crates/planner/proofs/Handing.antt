@@ -23,9 +23,9 @@ use Rattle.journeys.proofs.Planning.{reply-short, reply-planned}
 use Rattle.labels.specs.declared.Label.{Label}
 use Rattle.labels.specs.Run.{labelAt}
 use Rattle.candidates.specs.Candidates.{stateOf}
-use Rattle.plans.specs.Held.{Found}
-use Rattle.plans.proofs.Read.{label-held}
-use Rattle.plans.proofs.Backward.{sheet-written}
+use Rattle.readback.specs.Held.{Found}
+use Rattle.readback.proofs.Read.{label-held}
+use Rattle.readback.proofs.Backward.{sheet-written}
 use Rattle.planner.specs.Parts.{HandedBack}
 
 -- the header of so many moves to a label, which is the last of so many

@@ -16,8 +16,8 @@ use Rattle.journeys.specs.Planning.{searchReply}
 use Rattle.journeys.proofs.Planning.{reply-full, reply-no-road}
 use Rattle.candidates.specs.Candidates.{statesOf}
 use Rattle.settling.specs.Settling.{Ended}
-use Rattle.plans.specs.Held.{Found}
-use Rattle.plans.proofs.Ending.{ended-found}
+use Rattle.readback.specs.Held.{Found}
+use Rattle.readback.proofs.Ending.{ended-found}
 use Rattle.search.specs.Underway.{parentsOf}
 use Rattle.search.specs.declared.Outcome.{Outcome}
 use Rattle.search.specs.Turns.{EndsFound, EndsWithout, OutcomeSays}

@@ -5,7 +5,7 @@ ghost use lib.ListN.{length};
 ghost use Rattle.moves.specs.Runs.{Accepted, tripIn};
 ghost use Rattle.sheets.specs.Sheet.{sheetNeeded};
 ghost use Rattle.journeys.specs.Plan.{moveCount};
-ghost use Rattle.plans.specs.Held.{Found};
+ghost use Rattle.readback.specs.Held.{Found};
 ghost use Rattle.search.specs.Turns.{OutcomeSays};
 ghost use Rattle.journeys.specs.Planning.{labelsThatFit};
 ghost use Rattle.planner.specs.Parts.{HandedBack, Concluded};
@@ -32,7 +32,7 @@ fn write_plan(
     requires { ⌜ (moves ≡ moveCount (tripIn (now map) run)) × (sheetNeeded moves ≤ length (now sheet)) ⌝ }
     ensures { λ r. ⌜ HandedBack (now (map .entry)) run (now (sheet .entry)) (now (sheet .exit)) r ⌝ }
 {
-    plans::write_moves(map, run, words, n, moves, sheet);
+    readback::write_moves(map, run, words, n, moves, sheet);
     let label = labels::read_label(words, n);
     let heading = Heading {
         moves: moves as u32,
@@ -54,7 +54,7 @@ fn hand_back(map: &[u8], run: Run, words: &[u32], n: usize, sheet: &mut [u8]) ->
     requires { ⌜ n ≤ 1000000 ⌝ }
     ensures { λ r. ⌜ HandedBack (now (map .entry)) run (now (sheet .entry)) (now (sheet .exit)) r ⌝ }
 {
-    let moves = plans::count_moves(words, n);
+    let moves = readback::count_moves(words, n);
     let needed = 20 + 12 * moves;
     if sheet.len() < needed {
         return Planning::Refused(Refusal::ShortSheet(needed));

@@ -2,7 +2,7 @@ use Prim.Native.Nat.{_<_}
 use native.Mathlib.Omega.{arith}
 use borrow.Author.Needs.{needs}
 use Rattle.moves.specs.Runs.{tripIn}
-use Rattle.plans.proofs.Counted.{held-descends}
+use Rattle.readback.proofs.Counted.{held-descends}
 use Rattle.planner.proofs.Handing.{moves-below, handed-short}
 use Rattle.planner.proofs.hand_back.Statement.{statement}
 use Rattle.planner.proofs.hand_back.Tie as tie

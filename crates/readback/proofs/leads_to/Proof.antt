@@ -1,8 +1,8 @@
 use mathlib.Core.Path.{_∙_, sym}
 use borrow.Author.Tests.{not-true, not-false}
 use borrow.Author.Needs.{needs}
-use Rattle.plans.proofs.leads_to.Statement.{statement}
-use Rattle.plans.proofs.leads_to.Tie as tie
+use Rattle.readback.proofs.leads_to.Statement.{statement}
+use Rattle.readback.proofs.leads_to.Tie as tie
 
 returns : tie.Need-returns
 returns c = rw (sym (c .before .is-legal .ensures) ∙ not-true _ (c .if1 .taken))

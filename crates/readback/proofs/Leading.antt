@@ -22,7 +22,7 @@ use Rattle.journeys.specs.Ranked.{sameState}
 use Rattle.journeys.specs.Plan.{movesTo, moveTo}
 use Rattle.journeys.proofs.ParentMove.{Before, kind-below, number-below, MoveTo, test-move, move-test, move-some, move-is}
 use Rattle.candidates.proofs.Cursors.{same-move}
-use Rattle.plans.specs.Moving.{SomeMove, Drives, RoadTo}
+use Rattle.readback.specs.Moving.{SomeMove, Drives, RoadTo}
 
 -- an offered move: a drive, or a pause here at a car park
 data Offer (trip : Trip) (p : State) (m : Move) : Type 0 where

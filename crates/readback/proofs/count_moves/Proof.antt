@@ -1,8 +1,8 @@
 use native.Mathlib.Omega.{arith}
 use borrow.Author.Needs.{needs}
-use Rattle.plans.proofs.Counted.{Counting, count-first, count-next, count-end}
-use Rattle.plans.proofs.count_moves.Statement.{statement}
-use Rattle.plans.proofs.count_moves.Tie as tie
+use Rattle.readback.proofs.Counted.{Counting, count-first, count-next, count-end}
+use Rattle.readback.proofs.count_moves.Statement.{statement}
+use Rattle.readback.proofs.count_moves.Tie as tie
 
 abbrev Inv-loop : tie.InvT-loop
 Inv-loop words n k₀ m₀ k m = Counting words n k m

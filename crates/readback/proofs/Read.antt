@@ -20,9 +20,9 @@ use Rattle.journeys.proofs.Plan.{parent-move}
 use Rattle.labels.specs.Run.{parentOf, labelAt, settled}
 use Rattle.labels.proofs.Run.{settled-at}
 use Rattle.candidates.specs.Candidates.{stateOf, labelOf}
-use Rattle.plans.specs.Moving.{SomeMove}
-use Rattle.plans.specs.Held.{Holds, Found}
-use Rattle.plans.proofs.Counted.{parent-word, held-descends}
+use Rattle.readback.specs.Moving.{SomeMove}
+use Rattle.readback.specs.Held.{Holds, Found}
+use Rattle.readback.proofs.Counted.{parent-word, held-descends}
 
 getD-map : {A B : Type 0} (f : A → B) (l : List A) (d : A) (i : ℕ) → getD (map f l) i (f d) ≡ f (getD l i d)
 getD-map f [] d i = refl

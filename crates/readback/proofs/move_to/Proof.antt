@@ -1,9 +1,9 @@
 use mathlib.Core.Path.{_∙_, sym}
 use borrow.Author.Needs.{needs}
 use Rattle.moves.specs.Runs.{tripIn}
-use Rattle.plans.proofs.Leading.{drive-is, break-is, rest-is, break-leads}
-use Rattle.plans.proofs.move_to.Statement.{statement}
-use Rattle.plans.proofs.move_to.Tie as tie
+use Rattle.readback.proofs.Leading.{drive-is, break-is, rest-is, break-leads}
+use Rattle.readback.proofs.move_to.Statement.{statement}
+use Rattle.readback.proofs.move_to.Tie as tie
 
 returns : tie.Need-returns
 returns c =

@@ -16,7 +16,7 @@ use Rattle.labels.specs.Run.{stride, parentField, parentOf, settled, column}
 use Rattle.labels.proofs.Run.{settled-length, column-at}
 use Rattle.candidates.specs.Candidates.{stateOf, statesOf}
 use Rattle.settling.specs.Settling.{Ended}
-use Rattle.plans.specs.Held.{Holds, Found}
+use Rattle.readback.specs.Held.{Holds, Found}
 
 -- the lists of the loop's end are those of the words
 pub ended-holds : (trip : Trip) → SoundTrip trip → (words : List ℕ) (n : ℕ) {a : State}

@@ -13,7 +13,7 @@ use Rattle.journeys.specs.Labels.{labelCount, label, parentIn}
 use Rattle.journeys.specs.Plan.{moveTo, rowsFrom, planRows}
 use Rattle.journeys.proofs.Plan.{moves-enough, parent-lower, answer-last, plan-from}
 use Rattle.journeys.proofs.Rows.{rowAt, rowsTo, rows-first, rows-next}
-use Rattle.plans.specs.Held.{Answered}
+use Rattle.readback.specs.Held.{Answered}
 
 -- the rows to the label at index i
 abbrev pub rowsBack : Trip → ℕ → List Row

@@ -1,8 +1,8 @@
 use mathlib.Core.Path.{_∙_, ap}
 use borrow.Author.Needs.{needs}
 use Rattle.candidates.specs.Candidates.{stateOf}
-use Rattle.plans.proofs.state_at.Statement.{statement}
-use Rattle.plans.proofs.state_at.Tie as tie
+use Rattle.readback.proofs.state_at.Statement.{statement}
+use Rattle.readback.proofs.state_at.Tie as tie
 
 returns : tie.Need-returns
 returns c = c .state-of .ensures ∙ ap stateOf (c .before .read-label .ensures)

@@ -22,11 +22,11 @@ use Rattle.candidates.specs.Candidates.{stateOf}
 use Rattle.journeys.specs.Labels.{label, parentIn}
 use Rattle.journeys.specs.Plan.{moveTo, planRows, moveCount}
 use Rattle.journeys.proofs.Rows.{rowAt, plan-rows-length}
-use Rattle.plans.specs.Held.{Found}
-use Rattle.plans.specs.Rows.{RowFor}
-use Rattle.plans.proofs.Back.{rowsBack, back-first, back-next, plan-back}
-use Rattle.plans.proofs.Counted.{parent-word, held-descends}
-use Rattle.plans.proofs.Read.{label-held, parent-state}
+use Rattle.readback.specs.Held.{Found}
+use Rattle.readback.specs.Rows.{RowFor}
+use Rattle.readback.proofs.Back.{rowsBack, back-first, back-next, plan-back}
+use Rattle.readback.proofs.Counted.{parent-word, held-descends}
+use Rattle.readback.proofs.Read.{label-held, parent-state}
 
 -- with the header after its records it is the whole sheet
 pub sheet-written : (trip : Trip) (h : Heading) (s : List ℕ) → sheetNeeded (moveCount trip) ≤ length s

@@ -1,7 +1,7 @@
 use mathlib.Core.Path.{refl}
 use borrow.Author.Needs.{needs}
-use Rattle.plans.proofs.row_for.Statement.{statement}
-use Rattle.plans.proofs.row_for.Tie as tie
+use Rattle.readback.proofs.row_for.Statement.{statement}
+use Rattle.readback.proofs.row_for.Tie as tie
 
 returns : tie.Need-returns
 returns c = record { by = c .move-to .result; lowest = c .move-to .ensures; is = refl }

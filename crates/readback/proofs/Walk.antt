@@ -19,8 +19,8 @@ use Rattle.moves.specs.Moves.{move}
 use Rattle.moves.proofs.Stepped.{and-true}
 use Rattle.journeys.specs.Plan.{movesTo}
 use Rattle.candidates.proofs.Roads.{upTo, at-road, at-end, accepted-made}
-use Rattle.plans.specs.Moving.{Drives, RoadTo, passesBy}
-use Rattle.plans.proofs.Leading.{road-offered, offered-road}
+use Rattle.readback.specs.Moving.{Drives, RoadTo, passesBy}
+use Rattle.readback.proofs.Leading.{road-offered, offered-road}
 
 module _ (map : List ℕ) (o : Order) (p t : State) where
   pub record Walking (r : ℕ) : Type 0 where

@@ -6,11 +6,11 @@ use borrow.Author.Needs.{needs}
 use Rattle.moves.specs.Runs.{tripIn}
 use Rattle.labels.specs.Run.{parentOf, labelAt}
 use Rattle.candidates.specs.Candidates.{stateOf}
-use Rattle.plans.proofs.Counted.{held-descends}
-use Rattle.plans.proofs.Read.{label-range, parent-leads}
-use Rattle.plans.proofs.Backward.{Writing, write-first, write-fits, write-some, write-next, write-end}
-use Rattle.plans.proofs.write_moves.Statement.{statement}
-use Rattle.plans.proofs.write_moves.Tie as tie
+use Rattle.readback.proofs.Counted.{held-descends}
+use Rattle.readback.proofs.Read.{label-range, parent-leads}
+use Rattle.readback.proofs.Backward.{Writing, write-first, write-fits, write-some, write-next, write-end}
+use Rattle.readback.proofs.write_moves.Statement.{statement}
+use Rattle.readback.proofs.write_moves.Tie as tie
 
 abbrev Inv-loop : tie.InvT-loop
 Inv-loop map run words n m sheet₀ k₀ left₀ sheet k left = Writing (tripIn map run) n sheet₀ sheet k left

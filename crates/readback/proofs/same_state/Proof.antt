@@ -1,6 +1,6 @@
-use Rattle.plans.proofs.Same.{other-junction, other-clock, other-spell, by-shift}
-use Rattle.plans.proofs.same_state.Statement.{statement}
-use Rattle.plans.proofs.same_state.Tie as tie
+use Rattle.readback.proofs.Same.{other-junction, other-clock, other-spell, by-shift}
+use Rattle.readback.proofs.same_state.Statement.{statement}
+use Rattle.readback.proofs.same_state.Tie as tie
 
 returns : tie.Need-returns
 returns c = other-junction _ _ (c .if1 .taken)

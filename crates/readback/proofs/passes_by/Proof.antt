@@ -5,10 +5,10 @@ use mathlib.Core.Bool.{not}
 use native.Mathlib.Omega.{arith}
 use borrow.Author.Needs.{needs}
 use borrow.Author.Tests.{lt-ltb, le-ltb}
-use Rattle.plans.specs.Moving.{passesBy}
-use Rattle.plans.proofs.Leading.{drive-leads}
-use Rattle.plans.proofs.passes_by.Statement.{statement}
-use Rattle.plans.proofs.passes_by.Tie as tie
+use Rattle.readback.specs.Moving.{passesBy}
+use Rattle.readback.proofs.Leading.{drive-leads}
+use Rattle.readback.proofs.passes_by.Statement.{statement}
+use Rattle.readback.proofs.passes_by.Tie as tie
 
 returns : tie.Need-returns
 unfolding passesBy

@@ -1,4 +1,4 @@
--- `plans::road_to` meets its contract: a walk of its MIR, by hand, since a local holds a chain reader. Assumes nothing.
+-- `readback::road_to` meets its contract: a walk of its MIR, by hand, since a local holds a chain reader. Assumes nothing.
 -- In the loop the reader stands at a road before which no road of the junction leads to t (`Walk.antt`). All that the proof knows of `at_junction`, `passes_by` and `moved_on` is that each meets its contract. What map owns is had again for each call; what the plain parameters own is made anew.
 use mathlib.Core.Path.{_≡_, refl, sym, ap, _∙_}
 use mathlib.Core.Bool.{Bool, true, false, not}
@@ -64,17 +64,17 @@ use Rattle.chains.proofs.moved_on.Symbol as onward-def
 use Rattle.chains.proofs.moved_on.Symbol.{name as #chains·moved-on}
 use Rattle.chains.proofs.moved_on.Met as onward-thm
 use Rattle.candidates.proofs.Roads.{upTo, walk-rises}
-use Rattle.plans.specs.Moving.{RoadTo, passesBy}
-use Rattle.plans.proofs.Walk.{Walking, walk-first, walk-on, walk-stops}
-use Rattle.plans.proofs.passes_by as test
-use Rattle.plans.proofs.passes_by.Symbol as test-def
-use Rattle.plans.proofs.passes_by.Symbol.{name as #plans·passes-by}
-use Rattle.plans.proofs.passes_by.Met as test-thm
-use Rattle.plans.proofs.road_to.Key.{name as #plans·road-to}
-use Rattle.plans.proofs.road_to as road-to
-use Rattle.plans.proofs.road_to.Statement as stated
-use Rattle.plans.proofs.road_to.Code as code
-use Rattle.plans.proofs.road_to.Code.Mir as parts
+use Rattle.readback.specs.Moving.{RoadTo, passesBy}
+use Rattle.readback.proofs.Walk.{Walking, walk-first, walk-on, walk-stops}
+use Rattle.readback.proofs.passes_by as test
+use Rattle.readback.proofs.passes_by.Symbol as test-def
+use Rattle.readback.proofs.passes_by.Symbol.{name as #readback·passes-by}
+use Rattle.readback.proofs.passes_by.Met as test-thm
+use Rattle.readback.proofs.road_to.Key.{name as #readback·road-to}
+use Rattle.readback.proofs.road_to as road-to
+use Rattle.readback.proofs.road_to.Statement as stated
+use Rattle.readback.proofs.road_to.Code as code
+use Rattle.readback.proofs.road_to.Code.Mir as parts
 
 abbrev stayed : Stays (road-to.ended .signature .params) (road-to.ended .kept)
 stayed = (stay-none-slice (0 ∷ []) tt (plain (λ _. u8)) yes, (stay-none (λ _. R.the-row) yes, (stay-none (λ _. S.the-row) yes, (stay-none (λ _. S.the-row) yes, tt))))
@@ -244,7 +244,7 @@ module _ {M : Type 1} (𝓤 : URA M) (H : Heap 𝓤) (A : Atoms 𝓤) (W : Given
   Nearer-wf : WellFounded Nearer
   Nearer-wf = InvImage·wf left (Nat·lt-wfRel .wf)
 
-  module _ (𝓣 : Tables 𝓤 H) (known-start : Triple 𝓤 (𝓣 .C #chains·at-junction) (Start 𝓤 H A mem exe)) (known-test : Triple 𝓤 (𝓣 .C #plans·passes-by) (Test 𝓤 H A mem exe)) (known-onward : Triple 𝓤 (𝓣 .C #chains·moved-on) (Onward 𝓤 H A mem exe)) where
+  module _ (𝓣 : Tables 𝓤 H) (known-start : Triple 𝓤 (𝓣 .C #chains·at-junction) (Start 𝓤 H A mem exe)) (known-test : Triple 𝓤 (𝓣 .C #readback·passes-by) (Test 𝓤 H A mem exe)) (known-onward : Triple 𝓤 (𝓣 .C #chains·moved-on) (Onward 𝓤 H A mem exe)) where
     abbrev C : Calls 𝓤 H
     C = 𝓣 .C
 
@@ -332,7 +332,7 @@ module _ {M : Type 1} (𝓤 : URA M) (H : Heap 𝓤) (A : Atoms 𝓤) (W : Given
         move ! (19 ∷ []) $ fsplit ! $ move ! (1 ∷ []) $ drop ! $ move ! (19 ∷ 0 ∷ []) $ begins l₀ l₁ l₂ l₃ l₄ l₅ l₆ l₇ l₈)))))))))
 
 module _ {M : Type 1} (𝓤 : URA M) (H : Heap 𝓤) (A : Atoms 𝓤) (W : Given 𝓤 H A) (mem : Memory → SProp 𝓤) (exe : Routine → Fun 𝓤) (𝓣 : Tables 𝓤 H)
-    (known-start : Triple 𝓤 (𝓣 .C #chains·at-junction) (Start 𝓤 H A mem exe)) (known-test : Triple 𝓤 (𝓣 .C #plans·passes-by) (Test 𝓤 H A mem exe)) (known-onward : Triple 𝓤 (𝓣 .C #chains·moved-on) (Onward 𝓤 H A mem exe)) where
+    (known-start : Triple 𝓤 (𝓣 .C #chains·at-junction) (Start 𝓤 H A mem exe)) (known-test : Triple 𝓤 (𝓣 .C #readback·passes-by) (Test 𝓤 H A mem exe)) (known-onward : Triple 𝓤 (𝓣 .C #chains·moved-on) (Onward 𝓤 H A mem exe)) where
   road-to-walks : Walks 𝓤 H A road-to.ended stayed (WpFn 𝓤 H (𝓣 .C) (𝓣 .Λ) code.function) (road-to.clauses 𝓤 H A mem exe)
   road-to-walks = walked 𝓤 H A road-to.ended stayed (road-to.clauses 𝓤 H A mem exe) (WpFn 𝓤 H (𝓣 .C) (𝓣 .Λ) code.function)
       (λ κs. (slice-vals, (LL.vals R.the-type R′.the-laws, (LL.vals S.the-type S′.the-laws, (LL.vals S.the-type S′.the-laws, tt)))))
@@ -349,8 +349,8 @@ pub road-to-spec : {M : Type 1} → stated.statement M
 unfolding code.routine tablesOf
 road-to-spec 𝓤 H 𝓜 𝓖 𝓡 =
     entered 𝓤 H (tripleOf 𝓤 H (𝓖 .A) road-to.signature (road-to.spec 𝓤 H (𝓖 .A) (𝓜 .mem) (𝓡 .run)))
-    (tables 𝓤 H 𝓜 𝓡 code.env .C) (tables 𝓤 H 𝓜 𝓡 code.env .Λ) #plans·road-to code.function (code.unfolded 𝓤 H 𝓜 𝓡)
+    (tables 𝓤 H 𝓜 𝓡 code.env .C) (tables 𝓤 H 𝓜 𝓡 code.env .Λ) #readback·road-to code.function (code.unfolded 𝓤 H 𝓜 𝓡)
     (road-to-meets 𝓤 H (𝓖 .A) (givenOf 𝓤 H 𝓜 𝓖) (𝓜 .mem) (𝓡 .run) (tablesOf 𝓤 H 𝓜 (tables 𝓤 H 𝓜 𝓡 code.env))
     (cited 𝓤 H (Start 𝓤 H (𝓖 .A) (𝓜 .mem) (𝓡 .run)) 𝓜 𝓡 code.env #chains·at-junction start-def.routine code.calls-chains·at-junction (start-thm.met 𝓤 H 𝓜 𝓖 𝓡))
-    (cited 𝓤 H (Test 𝓤 H (𝓖 .A) (𝓜 .mem) (𝓡 .run)) 𝓜 𝓡 code.env #plans·passes-by test-def.routine code.calls-plans·passes-by (test-thm.met 𝓤 H 𝓜 𝓖 𝓡))
+    (cited 𝓤 H (Test 𝓤 H (𝓖 .A) (𝓜 .mem) (𝓡 .run)) 𝓜 𝓡 code.env #readback·passes-by test-def.routine code.calls-readback·passes-by (test-thm.met 𝓤 H 𝓜 𝓖 𝓡))
     (cited 𝓤 H (Onward 𝓤 H (𝓖 .A) (𝓜 .mem) (𝓡 .run)) 𝓜 𝓡 code.env #chains·moved-on onward-def.routine code.calls-chains·moved-on (onward-thm.met 𝓤 H 𝓜 𝓖 𝓡)))

@@ -12,8 +12,8 @@ use Rattle.labels.specs.Run.{parentOf}
 use Rattle.journeys.specs.Labels.{label, parentIn}
 use Rattle.journeys.specs.Plan.{moveCount}
 use Rattle.journeys.proofs.Rows.{rowAt, plan-rows-length}
-use Rattle.plans.specs.Held.{Holds, Found, Descends, CountsMoves}
-use Rattle.plans.proofs.Back.{rowsBack, back-first, back-next, plan-back}
+use Rattle.readback.specs.Held.{Holds, Found, Descends, CountsMoves}
+use Rattle.readback.proofs.Back.{rowsBack, back-first, back-next, plan-back}
 
 module _ (trip : Trip) (words : List ℕ) (n : ℕ) (held : Holds trip words n) where
   -- the word of a label's parent, by number
