@@ -18,7 +18,7 @@ use Rattle.theory.proofs.Sorting.{le-of-not, never-self}
 use Rattle.journeys.specs.Ranked.{covers, ranksNoHigher}
 use Rattle.journeys.proofs.Journeys.{T-true, true-T}
 use Rattle.journeys.proofs.Ranked.{rank-order, slack-covers}
-use Rattle.labels.specs.Run.{settled}
+use Rattle.labels.specs.LabelWords.{settled}
 use Rattle.labels.specs.Lists as lists
 use Rattle.labels.specs.Lists.{Says}
 use Rattle.candidates.specs.declared.Bound.{Bound}

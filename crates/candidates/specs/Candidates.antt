@@ -11,7 +11,7 @@ use Rattle.moves.specs.Trip.{Trip, roadsIn}
 use Rattle.moves.specs.Moves.{move, pauseMove, offers, after, legal}
 use Rattle.journeys.specs.Ranked.{ranksNoHigher}
 use Rattle.labels.specs.declared.Label.{Label}
-use Rattle.labels.specs.Run.{settled}
+use Rattle.labels.specs.LabelWords.{settled}
 
 -- a label as the state that it stands for
 abbrev pub stateOf : Label → State

@@ -1,4 +1,4 @@
 -- The laws of labels that callers cite.
-pub mod Run
+pub mod LabelWords
 pub mod Lists
 pub mod Tree

@@ -9,9 +9,9 @@ use native.Mathlib.Decide.{decLe, ℕ-discrete}
 use lib.ListN.{length, getD, set, length-set}
 use lib.Seq.{getD-set-same, getD-set-other}
 use Rattle.labels.specs.declared.Label.{Label}
-use Rattle.labels.specs.Run.{stride, largestWord, junctionField, spellField, shiftField, parentField, winnerField, at, field, junctionOf, previousOf, labelAt, settled, Same, SameLabels, Added}
+use Rattle.labels.specs.LabelWords.{stride, largestWord, junctionField, spellField, shiftField, parentField, winnerField, at, field, junctionOf, previousOf, labelAt, settled, Same, SameLabels, Added}
 use Rattle.labels.specs.Lists.{Covers, Covered, Last, Heads, LeastAt, Leasts, Lists, Lowered}
-use Rattle.labels.proofs.Run.{settled-mem, mem-settled, kept-field, kept-labels, set-labels}
+use Rattle.labels.proofs.LabelWords.{settled-mem, mem-settled, kept-field, kept-labels, set-labels}
 
 -- no label: no head, and nothing lowered
 pub lists-none :

@@ -8,9 +8,9 @@ use native.Mathlib.Nat.{le-refl}
 use native.Mathlib.Decide.{decLe, ℕ-discrete, map-dec}
 use lib.ListN.{length, set}
 use Rattle.labels.specs.declared.Label.{Label}
-use Rattle.labels.specs.Run.{stride, winnerField, at, winnerOf, Same, Added, WinnerWithin}
+use Rattle.labels.specs.LabelWords.{stride, winnerField, at, winnerOf, Same, Added, WinnerWithin}
 use Rattle.labels.specs.Tree.{ancestor, Under, Least, Right, Tree, TreeBut, Better, Stored, Mending, Entering}
-use Rattle.labels.proofs.Run.{set-same, set-label, kept-field}
+use Rattle.labels.proofs.LabelWords.{set-same, set-label, kept-field}
 
 -- Where a node stands.
 ancestor-le : (d m : ℕ) → ancestor d m ≤ m

@@ -1,3 +1,3 @@
-pub mod Run
+pub mod LabelWords
 pub mod Lists
 pub mod Tree

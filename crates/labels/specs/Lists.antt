@@ -7,7 +7,7 @@ use mathlib.Core.Logic.{_⊎_}
 use Prim.Native.Nat.{ℕ, _+_, _*_, _≤_, _<_}
 use lib.ListN.{length, getD}
 use Rattle.labels.specs.declared.Label.{Label}
-use Rattle.labels.specs.Run.{stride, largestWord, spellField, shiftField, field, junctionOf, previousOf, Added}
+use Rattle.labels.specs.LabelWords.{stride, largestWord, spellField, shiftField, field, junctionOf, previousOf, Added}
 
 -- label a is at b's junction, and no worse
 pub record Covers (a b : Label) : Type 0 where

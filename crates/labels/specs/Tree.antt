@@ -4,7 +4,7 @@ use mathlib.Core.Path.{_≡_}
 use mathlib.Core.List.{List}
 use mathlib.Core.Logic.{_⊎_}
 use Prim.Native.Nat.{ℕ, zero, suc, _+_, _/_, _≤_}
-use Rattle.labels.specs.Run.{winnerOf}
+use Rattle.labels.specs.LabelWords.{winnerOf}
 
 -- the node d levels above m
 abbrev pub ancestor : ℕ → ℕ → ℕ

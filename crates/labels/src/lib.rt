@@ -3,7 +3,7 @@ ghost use mathlib.Core.Path.{_≡_};
 ghost use mathlib.Core.List.{[], _∷_};
 ghost use Prim.Native.Nat.{_+_, _*_, _<_, _≤_};
 ghost use lib.ListN.{length, set};
-ghost use Rattle.labels.specs.Run.{stride, cursorField, winnerField, at, field, labelAt, clockOf, parentOf, cursorOf, winnerOf, previousOf, settled, puts, WinnerWithin};
+ghost use Rattle.labels.specs.LabelWords.{stride, cursorField, winnerField, at, field, labelAt, clockOf, parentOf, cursorOf, winnerOf, previousOf, settled, puts, WinnerWithin};
 ghost use Rattle.labels.specs.Lists.{Lists, LabelAdded, Covers, Covered, Says, Lowered};
 
 // A label's eight words, in order: what it is, and how the search goes on from it.

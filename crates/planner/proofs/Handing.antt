@@ -21,7 +21,7 @@ use Rattle.journeys.specs.Plan.{moveCount, planRows, headingAt, plannedSheet}
 use Rattle.journeys.proofs.Plan.{answer-last, plan-short}
 use Rattle.journeys.proofs.Planning.{reply-short, reply-planned}
 use Rattle.labels.specs.declared.Label.{Label}
-use Rattle.labels.specs.Run.{labelAt}
+use Rattle.labels.specs.LabelWords.{labelAt}
 use Rattle.candidates.specs.Candidates.{stateOf}
 use Rattle.readback.specs.Held.{Found}
 use Rattle.readback.proofs.Read.{label-held}

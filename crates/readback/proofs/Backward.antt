@@ -17,7 +17,7 @@ use Rattle.sheets.specs.declared.Heading.{Heading}
 use Rattle.sheets.specs.Sheet.{sheetNeeded, sheetAfter, withHeading, withRow}
 use Rattle.sheets.specs.Written.{backward}
 use Rattle.sheets.proofs.Writing.{length-with-row, backward-start, backward-step, backward-end}
-use Rattle.labels.specs.Run.{parentOf, labelAt}
+use Rattle.labels.specs.LabelWords.{parentOf, labelAt}
 use Rattle.candidates.specs.Candidates.{stateOf}
 use Rattle.journeys.specs.Labels.{label, parentIn}
 use Rattle.journeys.specs.Plan.{moveTo, planRows, moveCount}

@@ -8,7 +8,7 @@ use Rattle.moves.specs.declared.Run.{Run}
 use Rattle.moves.specs.Trip.{Trip}
 use Rattle.moves.specs.Runs.{Accepted, tripIn}
 use Rattle.moves.proofs.Rising.{run-sound}
-use Rattle.labels.specs.Run.{parentOf}
+use Rattle.labels.specs.LabelWords.{parentOf}
 use Rattle.journeys.specs.Labels.{label, parentIn}
 use Rattle.journeys.specs.Plan.{moveCount}
 use Rattle.journeys.proofs.Rows.{rowAt, plan-rows-length}

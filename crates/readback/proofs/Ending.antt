@@ -12,8 +12,8 @@ use Rattle.moves.specs.Runs.{Accepted, tripIn}
 use Rattle.moves.proofs.Rising.{SoundTrip, run-sound}
 use Rattle.journeys.specs.Labels.{labelCount}
 use Rattle.journeys.proofs.Labels.{label-some}
-use Rattle.labels.specs.Run.{stride, parentField, parentOf, settled, column}
-use Rattle.labels.proofs.Run.{settled-length, column-at}
+use Rattle.labels.specs.LabelWords.{stride, parentField, parentOf, settled, column}
+use Rattle.labels.proofs.LabelWords.{settled-length, column-at}
 use Rattle.candidates.specs.Candidates.{stateOf, statesOf}
 use Rattle.settling.specs.Settling.{Ended}
 use Rattle.readback.specs.Held.{Holds, Found}

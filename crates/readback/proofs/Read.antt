@@ -17,8 +17,8 @@ use Rattle.journeys.specs.Labels.{labelsIn, label, parentIn}
 use Rattle.journeys.proofs.Journeys.{RangeIn, reached-range}
 use Rattle.journeys.proofs.Labels.{label-exactly}
 use Rattle.journeys.proofs.Plan.{parent-move}
-use Rattle.labels.specs.Run.{parentOf, labelAt, settled}
-use Rattle.labels.proofs.Run.{settled-at}
+use Rattle.labels.specs.LabelWords.{parentOf, labelAt, settled}
+use Rattle.labels.proofs.LabelWords.{settled-at}
 use Rattle.candidates.specs.Candidates.{stateOf, labelOf}
 use Rattle.readback.specs.Moving.{SomeMove}
 use Rattle.readback.specs.Held.{Holds, Found}

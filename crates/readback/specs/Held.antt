@@ -10,7 +10,7 @@ use Rattle.moves.specs.Trip.{Trip}
 use Rattle.moves.specs.Runs.{Accepted, tripIn}
 use Rattle.journeys.specs.Labels.{answerIn, labelsIn, labelCount, label, parentIn}
 use Rattle.journeys.specs.Plan.{moveCount}
-use Rattle.labels.specs.Run.{stride, parentOf}
+use Rattle.labels.specs.LabelWords.{stride, parentOf}
 use Rattle.candidates.specs.Candidates.{statesOf}
 
 pub record Holds (trip : Trip) (words : List ℕ) (n : ℕ) : Type 0 where

@@ -11,7 +11,7 @@ ghost use Rattle.sheets.specs.Sheet.{sheetNeeded};
 ghost use Rattle.sheets.specs.Written.{backward};
 ghost use Rattle.journeys.specs.Ranked.{sameState};
 ghost use Rattle.journeys.specs.Plan.{moveTo, moveCount, planRows};
-ghost use Rattle.labels.specs.Run.{stride, labelAt};
+ghost use Rattle.labels.specs.LabelWords.{stride, labelAt};
 ghost use Rattle.candidates.specs.Candidates.{stateOf};
 ghost use Rattle.readback.specs.Moving.{SomeMove, RoadTo, passesBy};
 ghost use Rattle.readback.specs.Held.{Found, Descends, CountsMoves};

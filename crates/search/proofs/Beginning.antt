@@ -17,7 +17,7 @@ use Rattle.moves.proofs.Trips.{order-in}
 use Rattle.moves.proofs.Rising.{start-range, run-sound}
 use Rattle.journeys.specs.Journeys.{startIn}
 use Rattle.labels.specs.declared.Label.{Label}
-use Rattle.labels.specs.Run.{stride, largestWord, settled, column}
+use Rattle.labels.specs.LabelWords.{stride, largestWord, settled, column}
 use Rattle.labels.specs.Lists.{Lists, LabelAdded}
 use Rattle.labels.proofs.Lists.{lists-none, lists-same}
 use Rattle.candidates.specs.declared.Bound.{Bound}

@@ -13,7 +13,7 @@ use Rattle.moves.specs.Runs.{Accepted, tripIn}
 use Rattle.journeys.specs.Ranked.{ranksNoHigher}
 use Rattle.journeys.proofs.Journeys.{T-true, true-T}
 use Rattle.journeys.proofs.Ranked.{rank-order}
-use Rattle.labels.specs.Run.{labelAt, cursorOf, winnerOf}
+use Rattle.labels.specs.LabelWords.{labelAt, cursorOf, winnerOf}
 use Rattle.candidates.specs.declared.Bound.{Bound}
 use Rattle.candidates.specs.Candidates.{stateOf, statesOf, resultAt, rankNumber}
 use Rattle.candidates.specs.Next.{NextIs}

@@ -12,8 +12,8 @@ use Rattle.moves.specs.declared.Run.{Run}
 use Rattle.moves.specs.Trip.{Trip}
 use Rattle.journeys.specs.Journeys.{startIn}
 use Rattle.labels.specs.declared.Label.{Label}
-use Rattle.labels.specs.Run.{stride, parentField, cursorField, winnerField, at, field, labelAt, cursorOf, settled, column, Added}
-use Rattle.labels.proofs.Run.{settled-length, settled-at, column-length, column-at, column-same, column-added, settled-same}
+use Rattle.labels.specs.LabelWords.{stride, parentField, cursorField, winnerField, at, field, labelAt, cursorOf, settled, column, Added}
+use Rattle.labels.proofs.LabelWords.{settled-length, settled-at, column-length, column-at, column-same, column-added, settled-same}
 use Rattle.candidates.specs.Candidates.{stateOf, labelOf, statesOf}
 use Rattle.settling.specs.Settling.{stateAt, candidateOf}
 use Rattle.winners.specs.Keys.{OnlyWinners}

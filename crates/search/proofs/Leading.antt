@@ -11,7 +11,7 @@ use Rattle.moves.specs.declared.Run.{Run}
 use Rattle.moves.specs.Runs.{Accepted, tripIn}
 use Rattle.journeys.specs.Ranked.{ranksNoHigher}
 use Rattle.journeys.proofs.Journeys.{true-T}
-use Rattle.labels.specs.Run.{cursorOf}
+use Rattle.labels.specs.LabelWords.{cursorOf}
 use Rattle.candidates.specs.Candidates.{statesOf}
 use Rattle.winners.specs.Keys.{noKey, keyAt, Ready}
 use Rattle.winners.specs.Mending.{Leads}

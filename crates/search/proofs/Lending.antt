@@ -16,8 +16,8 @@ use Rattle.journeys.specs.Labels.{labelCount}
 use Rattle.journeys.specs.Planning.{labelsThatFit}
 use Rattle.journeys.proofs.Labels.{label-some}
 use Rattle.labels.specs.declared.Label.{Label}
-use Rattle.labels.specs.Run.{stride, junctionField, clockField, spellField, shiftField, parentField, previousField, at, Same}
-use Rattle.labels.proofs.Run.{column-same, settled-same}
+use Rattle.labels.specs.LabelWords.{stride, junctionField, clockField, spellField, shiftField, parentField, previousField, at, Same}
+use Rattle.labels.proofs.LabelWords.{column-same, settled-same}
 use Rattle.candidates.specs.Candidates.{stateOf, statesOf}
 use Rattle.settling.specs.Settling.{Ended}
 use Rattle.search.specs.declared.Outcome.{Outcome}

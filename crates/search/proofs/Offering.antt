@@ -14,7 +14,7 @@ use Rattle.theory.specs.States as states
 use Rattle.journeys.specs.Journeys.{atTarget}
 use Rattle.journeys.specs.Ranked.{covers}
 use Rattle.journeys.proofs.Journeys.{true-T}
-use Rattle.labels.specs.Run.{stride, labelAt, cursorOf, winnerOf}
+use Rattle.labels.specs.LabelWords.{stride, labelAt, cursorOf, winnerOf}
 use Rattle.labels.specs.Lists as lists
 use Rattle.candidates.specs.Candidates.{stateOf, labelOf, statesOf, resultAt}
 use Rattle.winners.specs.Keys.{noKey, keyAt}

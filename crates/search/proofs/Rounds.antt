@@ -6,7 +6,7 @@ use native.Mathlib.Omega.{arith}
 use lib.ListN.{length}
 use Rattle.moves.specs.declared.Run.{Run}
 use Rattle.moves.specs.Runs.{Accepted, tripIn}
-use Rattle.labels.specs.Run.{winnerOf}
+use Rattle.labels.specs.LabelWords.{winnerOf}
 use Rattle.winners.specs.Keys.{noKey, keyAt}
 use Rattle.winners.specs.Mending.{Leads}
 use Rattle.winners.proofs.Keys.{key-top}

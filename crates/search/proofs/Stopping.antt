@@ -16,7 +16,7 @@ use Rattle.journeys.specs.Labels.{labelCount}
 use Rattle.journeys.specs.Ranked.{covers}
 use Rattle.journeys.proofs.Ranked.{covers-slack}
 use Rattle.labels.specs.declared.Label.{Label}
-use Rattle.labels.specs.Run.{settled}
+use Rattle.labels.specs.LabelWords.{settled}
 use Rattle.labels.specs.Lists as lists
 use Rattle.candidates.specs.Candidates.{stateOf, labelOf, statesOf}
 use Rattle.winners.specs.Keys.{noKey, keyAt}

@@ -18,9 +18,9 @@ use Rattle.journeys.specs.Journeys.{atTarget}
 use Rattle.journeys.specs.Ranked.{covers}
 use Rattle.journeys.proofs.Laws.{laws}
 use Rattle.labels.specs.declared.Label.{Label}
-use Rattle.labels.specs.Run.{stride, cursorField, at, labelAt, cursorOf, winnerOf}
+use Rattle.labels.specs.LabelWords.{stride, cursorField, at, labelAt, cursorOf, winnerOf}
 use Rattle.labels.specs.Lists.{Lists, LabelAdded}
-use Rattle.labels.proofs.Run.{kept-field, kept-labels, same-label}
+use Rattle.labels.proofs.LabelWords.{kept-field, kept-labels, same-label}
 use Rattle.labels.proofs.Lists.{lists-same}
 use Rattle.candidates.specs.declared.Bound.{Bound}
 use Rattle.candidates.specs.Candidates.{stateOf, labelOf, statesOf, resultAt, Cursor}

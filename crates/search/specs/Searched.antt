@@ -5,7 +5,7 @@ use Prim.Native.Nat.{ℕ, _*_}
 use lib.ListN.{length, drop}
 use Rattle.moves.specs.declared.Run.{Run}
 use Rattle.journeys.specs.Planning.{labelsThatFit}
-use Rattle.labels.specs.Run.{stride}
+use Rattle.labels.specs.LabelWords.{stride}
 use Rattle.search.specs.declared.Outcome.{Outcome}
 use Rattle.search.specs.Turns.{OutcomeSays}
 

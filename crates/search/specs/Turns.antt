@@ -7,7 +7,7 @@ use Rattle.moves.specs.declared.Run.{Run}
 use Rattle.moves.specs.declared.State.{State}
 use Rattle.moves.specs.Runs.{tripIn}
 use Rattle.journeys.specs.Labels.{labelCount}
-use Rattle.labels.specs.Run.{stride}
+use Rattle.labels.specs.LabelWords.{stride}
 use Rattle.candidates.specs.Candidates.{statesOf}
 use Rattle.settling.specs.Settling.{Ended}
 use Rattle.search.specs.declared.Turn.{Turn}

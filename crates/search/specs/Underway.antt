@@ -7,7 +7,7 @@ use Rattle.roadmap.specs.Format.{junctionCount}
 use Rattle.moves.specs.declared.Run.{Run}
 use Rattle.moves.specs.declared.State.{State}
 use Rattle.moves.specs.Runs.{tripIn}
-use Rattle.labels.specs.Run.{cursorField, parentField, labelAt, cursorOf, winnerOf, column}
+use Rattle.labels.specs.LabelWords.{cursorField, parentField, labelAt, cursorOf, winnerOf, column}
 use Rattle.labels.specs.Lists.{Lists}
 use Rattle.labels.specs.Tree.{Tree}
 use Rattle.candidates.specs.Candidates.{stateOf, statesOf, resultAt}

@@ -10,7 +10,7 @@ ghost use Rattle.theory.specs.States.{Covered};
 ghost use Rattle.journeys.specs.Journeys.{atTarget};
 ghost use Rattle.journeys.specs.Ranked.{covers};
 ghost use Rattle.journeys.specs.Planning.{labelsThatFit};
-ghost use Rattle.labels.specs.Run.{stride, labelAt, cursorOf, winnerOf};
+ghost use Rattle.labels.specs.LabelWords.{stride, labelAt, cursorOf, winnerOf};
 ghost use Rattle.labels.specs.Lists.{Lists, LabelAdded};
 ghost use Rattle.candidates.specs.Candidates.{stateOf, labelOf, statesOf, resultAt};
 ghost use Rattle.winners.specs.Keys.{keyAt, Sound};

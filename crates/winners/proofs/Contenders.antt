@@ -12,7 +12,7 @@ use Rattle.moves.specs.declared.State.{State}
 use Rattle.moves.specs.Trip.{Trip}
 use Rattle.moves.specs.Runs.{Accepted, tripIn}
 use Rattle.journeys.specs.Ranked.{ranksNoHigher}
-use Rattle.labels.specs.Run.{winnerField, at, labelAt, cursorOf}
+use Rattle.labels.specs.LabelWords.{winnerField, at, labelAt, cursorOf}
 use Rattle.labels.specs.Tree.{Better}
 use Rattle.candidates.specs.Candidates.{stateOf, resultAt, rankNumber}
 use Rattle.winners.specs.declared.Contender.{Contender}

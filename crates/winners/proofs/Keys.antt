@@ -17,8 +17,8 @@ use Rattle.moves.proofs.Trips.{junctions-in, order-in}
 use Rattle.moves.proofs.Rising.{sound-trip, range-after}
 use Rattle.journeys.specs.Ranked.{ranksNoHigher}
 use Rattle.labels.specs.declared.Label.{Label}
-use Rattle.labels.specs.Run.{junctionField, clockField, spellField, shiftField, previousField, cursorField, at, labelAt, cursorOf, SameLabels}
-use Rattle.labels.proofs.Run.{same-label}
+use Rattle.labels.specs.LabelWords.{junctionField, clockField, spellField, shiftField, previousField, cursorField, at, labelAt, cursorOf, SameLabels}
+use Rattle.labels.proofs.LabelWords.{same-label}
 use Rattle.candidates.specs.Candidates.{stateOf, moveAt, resultAt, Names, Cursor, rankNumber}
 use Rattle.winners.specs.Keys.{noKey, keyFrom, keyAt, Sound, Entrant, Ready, OnlyWinners, Small}
 use Rattle.winners.proofs.Ranks.{below-none, number-low}

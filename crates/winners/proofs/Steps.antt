@@ -14,9 +14,9 @@ use Rattle.moves.specs.declared.Run.{Run}
 use Rattle.moves.specs.Trip.{Trip}
 use Rattle.moves.specs.Runs.{Accepted, InRange, tripIn}
 use Rattle.labels.specs.declared.Label.{Label}
-use Rattle.labels.specs.Run.{stride, junctionField, clockField, spellField, shiftField, previousField, cursorField, winnerField, at, labelAt, cursorOf, winnerOf, settled, SameLabels, Added, WinnerWithin}
+use Rattle.labels.specs.LabelWords.{stride, junctionField, clockField, spellField, shiftField, previousField, cursorField, winnerField, at, labelAt, cursorOf, winnerOf, settled, SameLabels, Added, WinnerWithin}
 use Rattle.labels.specs.Tree.{Tree, TreeBut, Better, Stored, Mending, Entering}
-use Rattle.labels.proofs.Run.{set-same, set-field, set-label, set-labels, kept-field, kept-labels, same-label, settled-same, settled-set}
+use Rattle.labels.proofs.LabelWords.{set-same, set-field, set-label, set-labels, kept-field, kept-labels, same-label, settled-same, settled-set}
 use Rattle.labels.proofs.Tree.{under-self, beyond, beside, changed, mend-first, mend-step, mend-end, rekey, rekey-mending, rekey-entering, enter-added, enter-step, enter-stop, enter-end, stored, root-least, root-small}
 use Rattle.candidates.specs.Candidates.{stateOf, Cursor}
 use Rattle.winners.specs.declared.Contender.{Contender}

@@ -8,7 +8,7 @@ use Rattle.moves.specs.declared.Run.{Run}
 use Rattle.moves.specs.declared.State.{State}
 use Rattle.moves.specs.Trip.{Trip}
 use Rattle.moves.specs.Runs.{InRange, tripIn}
-use Rattle.labels.specs.Run.{stride, winnerField, labelAt, cursorOf}
+use Rattle.labels.specs.LabelWords.{stride, winnerField, labelAt, cursorOf}
 use Rattle.candidates.specs.Candidates.{stateOf, resultAt, Cursor, rankNumber}
 
 -- above the key of every candidate: that of a label without one, and of no label

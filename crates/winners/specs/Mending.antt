@@ -9,7 +9,7 @@ use Rattle.moves.specs.declared.Run.{Run}
 use Rattle.moves.specs.declared.State.{State}
 use Rattle.moves.specs.Trip.{Trip}
 use Rattle.moves.specs.Runs.{tripIn}
-use Rattle.labels.specs.Run.{stride, cursorField, winnerField, at, cursorOf, settled}
+use Rattle.labels.specs.LabelWords.{stride, cursorField, winnerField, at, cursorOf, settled}
 use Rattle.labels.specs.Tree.{Tree, Better, Mending, Entering}
 use Rattle.candidates.specs.Candidates.{rankNumber}
 use Rattle.winners.specs.declared.Contender.{Contender}

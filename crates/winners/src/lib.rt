@@ -4,7 +4,7 @@ ghost use mathlib.Core.Path.{_≡_};
 ghost use Prim.Native.Nat.{_+_, _*_, _/_, _<_, _≤_};
 ghost use lib.ListN.{length};
 ghost use Rattle.moves.specs.Runs.{Accepted, tripIn};
-ghost use Rattle.labels.specs.Run.{stride, labelAt};
+ghost use Rattle.labels.specs.LabelWords.{stride, labelAt};
 ghost use Rattle.labels.specs.Tree.{Tree, TreeBut, Entering};
 ghost use Rattle.candidates.specs.Candidates.{stateOf, Cursor};
 ghost use Rattle.winners.specs.Keys.{keyAt, Entrant, Ready};

@@ -1,7 +1,7 @@
 -- The store of its words adds the label, and the lists follow.
 use borrow.Author.Needs.{needs}
 use native.Mathlib.Omega.{arith}
-use Rattle.labels.proofs.Run.{label-stored}
+use Rattle.labels.proofs.LabelWords.{label-stored}
 use Rattle.labels.proofs.Lists.{lists-added}
 use Rattle.labels.proofs.add_label.Statement.{statement}
 use Rattle.labels.proofs.add_label.Tie as tie

@@ -1,7 +1,7 @@
 use borrow.Author.Needs.{needs}
 use native.Mathlib.Omega.{arith}
 use lib.ListN.{length-set}
-use Rattle.labels.specs.Run.{puts}
+use Rattle.labels.specs.LabelWords.{puts}
 use Rattle.labels.proofs.store.Statement.{statement}
 use Rattle.labels.proofs.store.Tie as tie
 

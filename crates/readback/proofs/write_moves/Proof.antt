@@ -4,7 +4,7 @@ use Prim.Native.Nat.{ℕ}
 use native.Mathlib.Omega.{arith}
 use borrow.Author.Needs.{needs}
 use Rattle.moves.specs.Runs.{tripIn}
-use Rattle.labels.specs.Run.{parentOf, labelAt}
+use Rattle.labels.specs.LabelWords.{parentOf, labelAt}
 use Rattle.candidates.specs.Candidates.{stateOf}
 use Rattle.readback.proofs.Counted.{held-descends}
 use Rattle.readback.proofs.Read.{label-range, parent-leads}

@@ -4,7 +4,7 @@ use native.Mathlib.Omega.{arith}
 use lib.ListN.{length}
 use borrow.Author.Needs.{needs}
 use Rattle.labels.specs.declared.Label.{Label}
-use Rattle.labels.specs.Run.{settled}
+use Rattle.labels.specs.LabelWords.{settled}
 use Rattle.labels.specs.Lists.{Says, Covered}
 use Rattle.candidates.proofs.Trials.{covered-state}
 use Rattle.search.specs.Turns.{goes}

@@ -3,7 +3,7 @@ use Prim.Native.Nat.{_+_, _*_, _<_, _≤_}
 use native.Mathlib.Omega.{arith}
 use lib.ListN.{length}
 use borrow.Author.Needs.{needs}
-use Rattle.labels.specs.Run.{stride}
+use Rattle.labels.specs.LabelWords.{stride}
 use Rattle.search.specs.Turns.{goes, found, full}
 use Rattle.search.proofs.Turning.{chosen-range}
 use Rattle.search.proofs.Stopping.{more-labels}

@@ -5,7 +5,7 @@ use native.Mathlib.Omega.{arith}
 use lib.ListN.{length}
 use borrow.Author.Needs.{needs}
 use Rattle.moves.specs.Runs.{tripIn}
-use Rattle.labels.specs.Run.{stride, winnerOf}
+use Rattle.labels.specs.LabelWords.{stride, winnerOf}
 use Rattle.winners.specs.Keys.{noKey, keyAt}
 use Rattle.search.specs.declared.Turn.{Turn}
 use Rattle.search.specs.Turns.{TurnSays}

@@ -3,7 +3,7 @@ use Prim.Native.Nat.{ℕ, _≤_, _<_}
 use native.Mathlib.Omega.{arith}
 use borrow.Author.Needs.{needs}
 use Rattle.moves.specs.Runs.{tripIn}
-use Rattle.labels.specs.Run.{cursorOf}
+use Rattle.labels.specs.LabelWords.{cursorOf}
 use Rattle.winners.specs.Mending.{Leads}
 use Rattle.search.specs.Turns.{exhausted}
 use Rattle.search.proofs.Offering.{leader-none, leader-shut, root-least, says-below}

@@ -3,7 +3,7 @@ use native.Mathlib.Omega.{arith}
 use borrow.Author.Needs.{needs}
 use native.Mathlib.Nat.{le-refl}
 use Rattle.moves.specs.Runs.{tripIn}
-use Rattle.labels.specs.Run.{WinnerWithin}
+use Rattle.labels.specs.LabelWords.{WinnerWithin}
 use Rattle.winners.proofs.Steps.{child-within, begun}
 use Rattle.winners.proofs.begin.Statement.{statement}
 use Rattle.winners.proofs.begin.Tie as tie

@@ -3,7 +3,7 @@ use Prim.Native.Nat.{ℕ}
 use native.Mathlib.Omega.{arith}
 use borrow.Author.Needs.{needs}
 use Rattle.moves.specs.Runs.{tripIn}
-use Rattle.labels.specs.Run.{winnerOf}
+use Rattle.labels.specs.LabelWords.{winnerOf}
 use Rattle.winners.specs.Mending.{Named}
 use Rattle.winners.proofs.Steps.{old-within, stays, wins}
 use Rattle.winners.proofs.place.Statement.{statement}

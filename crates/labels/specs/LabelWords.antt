@@ -1,4 +1,4 @@
--- The label run: label k, from 1, is so many words from word stride * (k - 1) on. Assumes nothing.
+-- The labels in words: label k, from 1, is so many words from word stride * (k - 1) on. Assumes nothing.
 use mathlib.Core.Path.{_≡_}
 use mathlib.Core.List.{List, [], _∷_, _++_}
 use Prim.Native.Nat.{ℕ, zero, suc, _+_, _-_, _*_, _≤_, _<_}

@@ -10,7 +10,7 @@ use native.Mathlib.Decide.{decLe, ℕ-discrete}
 use lib.ListN.{length, getD, set, length-set, length-append, List·getD-append}
 use lib.Seq.{getD-set-same, getD-set-other, getD-at, ext-getD}
 use Rattle.labels.specs.declared.Label.{Label}
-use Rattle.labels.specs.Run.{stride, junctionField, clockField, spellField, shiftField, parentField, cursorField, winnerField, previousField, at, field, previousOf, labelAt, settled, column, Same, SameLabels, Added, puts}
+use Rattle.labels.specs.LabelWords.{stride, junctionField, clockField, spellField, shiftField, parentField, cursorField, winnerField, previousField, at, field, previousOf, labelAt, settled, column, Same, SameLabels, Added, puts}
 
 -- A word that is stored is read, and no other word of the labels changes.
 module _ (ws : List ℕ) (k f v : ℕ) (small : f < stride) where
