@@ -10,7 +10,7 @@ use lib.Dec.{eqb, leb}
 use lib.ListN.{length, getD}
 use Rattle.roadmap.specs.Format.{junctionCount, roadCount, carPark, roadFrom}
 use Rattle.driving.specs.declared.Order.{Order}
-use Rattle.moves.specs.Trip.{Stretch, Trip, stretchOf, counted, tripOf, noRoad, roadIn, parkIn, roadsIn, junctionsIn}
+use Rattle.moves.specs.Trip.{Stretch, Trip, stretchOf, counted, tripOf, noStretch, roadIn, parkIn, roadsIn, junctionsIn}
 use Rattle.moves.specs.declared.State.{State}
 use Rattle.moves.specs.Moves.{leaves, legal}
 
@@ -45,7 +45,7 @@ module _ (map : List ℕ) (order : Order) where
   pub road-in : (r : ℕ) → 1 ≤ r → r ≤ roadCount map → roadIn (tripOf map order) r ≡ stretchOf map r
   unfolding tripOf
   road-in r low high =
-      counted-at (stretchOf map) noRoad 1 (roadCount map) (r - 1) (omega arith) ∙ ap (stretchOf map) (back r low)
+      counted-at (stretchOf map) noStretch 1 (roadCount map) (r - 1) (omega arith) ∙ ap (stretchOf map) (back r low)
     where
       back : (r : ℕ) → 1 ≤ r → 1 + (r - 1) ≡ r
       back r low = omega arith

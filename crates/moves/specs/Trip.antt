@@ -38,12 +38,13 @@ tripOf map order =
       order = order;
     }
 
--- road r, from 1
-abbrev pub noRoad : Stretch
-noRoad = record { from = 0; to = 0; seconds = 0 }
+-- what stands for a road with no number of the map
+abbrev pub noStretch : Stretch
+noStretch = record { from = 0; to = 0; seconds = 0 }
 
+-- road r, from 1
 abbrev pub roadIn : Trip → ℕ → Stretch
-roadIn trip r = getD (trip .roads) (r - 1) noRoad
+roadIn trip r = getD (trip .roads) (r - 1) noStretch
 
 -- whether junction j, from 1, is a car park
 abbrev pub parkIn : Trip → ℕ → Bool
