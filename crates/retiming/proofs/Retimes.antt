@@ -21,7 +21,7 @@ use Rattle.moves.specs.Opened.{runTests}
 use Rattle.moves.specs.declared.State.{State}
 use Rattle.sheets.specs.declared.Heading.{Heading}
 use Rattle.sheets.specs.Sheet.{headingOf, sheetNeeded, sheetAfter, withHeading}
-use Rattle.sheets.specs.Written.{rowsFrom}
+use Rattle.sheets.specs.Written.{rowsPut}
 use Rattle.sheets.proofs.Writing.{heading-last}
 use Rattle.sheets.proofs.Reading.{length-rows-of}
 use Rattle.retiming.specs.declared.Walked.{Walked}
@@ -62,7 +62,7 @@ module _ (map : List ℕ) (order : Order) (sheet before : List ℕ) where
     count = walk-length false _ 1 _ _ (reached-is timed s (ended .2)) ∙ length-rows-of sheet 1 (movesOn sheet)
 
     pub retimed-written : 20 + 12 * given .moves ≤ length before → (after : List ℕ) →
-        after ≡ withHeading (rowsFrom 0 (rowsReached timed) before) (retimedHeading given s) →
+        after ≡ withHeading (rowsPut 0 (rowsReached timed) before) (retimedHeading given s) →
         RetimedRun map order sheet before after (Timing.Timed (given .moves) (s .clock))
     unfolding firstOf
     retimed-written fits after written =

@@ -17,7 +17,7 @@ use Rattle.moves.specs.Runs.{Accepted, InRange, tripIn}
 use Rattle.moves.proofs.Rising.{start-range}
 use Rattle.sheets.specs.declared.Row.{Row}
 use Rattle.sheets.specs.Sheet.{rowAt, rowsOf, sheetNeeded, withRow}
-use Rattle.sheets.specs.Written.{rowsFrom}
+use Rattle.sheets.specs.Written.{rowsPut}
 use Rattle.sheets.proofs.Writing.{none-from, row-behind, length-from}
 use Rattle.retiming.specs.declared.Walked.{Walked}
 use Rattle.retiming.specs.Walk.{Walk, refused, reached, moveOf, trueRow, recorded, walk}
@@ -101,7 +101,7 @@ module _ (map : List ℕ) (run : Run) (sheet : List ℕ) (moves : ℕ) (last : S
     -- the rest of the walk gives the rest of the records
     pub left : walkFrom k s (moves + 1 - k) ≡ reached last (drop (k - 1) rows)
     -- and those before it are written
-    pub done : out ≡ rowsFrom 0 (take (k - 1) rows) before
+    pub done : out ≡ rowsPut 0 (take (k - 1) rows) before
 
   pub rewriting-start : Accepted map run → moves ≡ movesOn sheet → timing false map (run .order) sheet ≡ reached last rows → Rewriting 1 (startOf (run .order)) before
   unfolding timing
@@ -130,13 +130,13 @@ module _ (map : List ℕ) (run : Run) (sheet : List ℕ) (moves : ℕ) (last : S
         (says-refused false (tripIn map run) k s (rowAt sheet k) (rowsOf sheet (k + 1) (moves + 1 - (k + 1))) why h)
 
     -- all are written where all have been walked over
-    pub rewriting-end : moves < k → out ≡ rowsFrom 0 rows before
+    pub rewriting-end : moves < k → out ≡ rowsPut 0 rows before
     unfolding rowsOf
     rewriting-end past =
         let none-left : moves + 1 - k ≡ 0 = omega arith in
         let ended : reached s [] ≡ reached last (drop (k - 1) rows) =
         sym (ap (walkFrom k s) none-left ∙ walk-end false (tripIn map run) k s) ∙ on .left in
-        on .done ∙ ap (λ (l : List Row). rowsFrom 0 l before) (take-all (k - 1) rows (sym (cc ended)))
+        on .done ∙ ap (λ (l : List Row). rowsPut 0 l before) (take-all (k - 1) rows (sym (cc ended)))
 
     -- the sheet keeps its length
     pub rewriting-length : sheetNeeded moves ≤ length before → length out ≡ length before
@@ -157,5 +157,5 @@ module _ (map : List ℕ) (run : Run) (sheet : List ℕ) (moves : ℕ) (last : S
           left = rest .rest ∙ ap (reached last) (sym (ap (λ (i : ℕ). drop i rows) next ∙ drop-more (k - 1) rows (rest .zs) (rest .is)));
           done = ap (λ (l : List ℕ). withRow l k (trueRow (rowAt sheet k) t)) (on .done)
               ∙ row-behind 0 (take (k - 1) rows) before k (trueRow (rowAt sheet k) t) (omega (arith, length-take-le (k - 1) rows (omega (arith, within)), on .low)) (omega arith)
-              ∙ sym (ap (λ (l : List Row). rowsFrom 0 l before) (ap (λ (i : ℕ). take i rows) next ∙ take-more (k - 1) rows (rest .zs) (rest .is)));
+              ∙ sym (ap (λ (l : List Row). rowsPut 0 l before) (ap (λ (i : ℕ). take i rows) next ∙ take-more (k - 1) rows (rest .zs) (rest .is)));
         }

@@ -9,7 +9,7 @@ ghost use Rattle.roadmap.specs.Format.{junctionCount};
 ghost use Rattle.moves.specs.Runs.{Accepted, InRange, tripIn};
 ghost use Rattle.moves.specs.Moves.{startOf};
 ghost use Rattle.sheets.specs.Sheet.{sheetNeeded};
-ghost use Rattle.sheets.specs.Written.{Whole, rowsFrom};
+ghost use Rattle.sheets.specs.Written.{Whole, rowsPut};
 ghost use Rattle.retiming.specs.Walk.{walk};
 ghost use Rattle.retiming.specs.Retiming.{movesOn, timing, falseFigures, auditReply};
 ghost use Rattle.retiming.specs.Parts.{clockWalk, WalkSays, SheetSays, Ends, rowsReached, auditedRun, RetimedRun, Retimed};
@@ -155,7 +155,7 @@ fn write_rows(map: &[u8], run: Run, sheet: &[u8], out: &mut [u8])
     requires { ⌜ Whole (now sheet) ⌝ }
     requires { ⌜ Ends (timing false (now map) (run .order) (now sheet)) ⌝ }
     requires { ⌜ sheetNeeded (movesOn (now sheet)) ≤ length (now out) ⌝ }
-    ensures { λ _. ⌜ now (out .exit) ≡ rowsFrom 0 (rowsReached (timing false (now (map .entry)) (run .order) (now (sheet .entry)))) (now (out .entry)) ⌝ }
+    ensures { λ _. ⌜ now (out .exit) ≡ rowsPut 0 (rowsReached (timing false (now (map .entry)) (run .order) (now (sheet .entry)))) (now (out .entry)) ⌝ }
 {
     let order = run.order;
     let moves = words::word(sheet, 0) as usize;

@@ -11,7 +11,7 @@ use lib.Seq.{length-take-le, take-length, drop-length, take-suc, drop-cons}
 use Rattle.sheets.specs.declared.Heading.{Heading}
 use Rattle.sheets.specs.declared.Row.{Row}
 use Rattle.sheets.specs.Sheet.{headingBytes, rowBytes, rowsBytes, sheetNeeded, sheetAfter, withHeading, withRow}
-use Rattle.sheets.specs.Written.{rowsFrom, forward, backward}
+use Rattle.sheets.specs.Written.{rowsPut, forward, backward}
 use Rattle.sheets.proofs.Splice.{length-splice, splice-next, splice-before}
 use Rattle.sheets.proofs.Bytes.{length-row, length-rows, length-heading}
 
@@ -22,13 +22,13 @@ pub length-with-row : (s : List ℕ) (k : ℕ) (row : Row) → 1 ≤ k → sheet
 length-with-row s k row low fits =
     length-splice s (rowBytes row) (20 + 12 * (k - 1)) (20 + 12 * k) (rw length-row (omega arith)) fits
 
-pub length-from : (n : ℕ) (rows : List Row) (s : List ℕ) → sheetNeeded (n + length rows) ≤ length s → length (rowsFrom n rows s) ≡ length s
-unfolding rowsFrom
+pub length-from : (n : ℕ) (rows : List Row) (s : List ℕ) → sheetNeeded (n + length rows) ≤ length s → length (rowsPut n rows s) ≡ length s
+unfolding rowsPut
 length-from n rows s fits =
     length-splice s (rowsBytes rows) (20 + 12 * n) (20 + 12 * (n + length rows)) (rw length-rows (omega arith)) fits
 
-pub none-from : (n : ℕ) (s : List ℕ) → rowsFrom n [] s ≡ s
-unfolding rowsFrom rowsBytes
+pub none-from : (n : ℕ) (s : List ℕ) → rowsPut n [] s ≡ s
+unfolding rowsPut rowsBytes
 none-from n s = simp (add-zero, append-nil, take-append-drop)
 
 rows-snoc : (rows : List Row) (row : Row) → rowsBytes (rows ++ (row ∷ [])) ≡ rowsBytes rows ++ rowBytes row
@@ -37,8 +37,8 @@ rows-snoc [] row = append-nil (rowBytes row)
 rows-snoc (first ∷ rows) row = rw (rows-snoc rows row, append-assoc)
 
 -- one record more behind them: record j
-pub row-behind : (n : ℕ) (rows : List Row) (s : List ℕ) (j : ℕ) (row : Row) → j ≡ n + length rows + 1 → sheetNeeded j ≤ length s → withRow (rowsFrom n rows s) j row ≡ rowsFrom n (rows ++ (row ∷ [])) s
-unfolding rowsFrom
+pub row-behind : (n : ℕ) (rows : List Row) (s : List ℕ) (j : ℕ) (row : Row) → j ≡ n + length rows + 1 → sheetNeeded j ≤ length s → withRow (rowsPut n rows s) j row ≡ rowsPut n (rows ++ (row ∷ [])) s
+unfolding rowsPut
 row-behind n rows s j row next fits =
     let front : 20 + 12 * (j - 1) ≡ 20 + 12 * (n + length rows) = omega arith in
     let end : n + (length rows + 1) ≡ j = omega arith in
@@ -46,8 +46,8 @@ row-behind n rows s j row next fits =
     (splice-next s (rowsBytes rows) (rowBytes row) (20 + 12 * n) (20 + 12 * (n + length rows)) (20 + 12 * j) (rw length-rows (omega arith)) (rw length-row (omega arith)) fits)
 
 -- one record more before them: record j
-pub row-before : (n : ℕ) (rows : List Row) (s : List ℕ) (j : ℕ) (row : Row) → j ≡ n + 1 → sheetNeeded (j + length rows) ≤ length s → withRow (rowsFrom j rows s) j row ≡ rowsFrom n (row ∷ rows) s
-unfolding rowsFrom rowsBytes
+pub row-before : (n : ℕ) (rows : List Row) (s : List ℕ) (j : ℕ) (row : Row) → j ≡ n + 1 → sheetNeeded (j + length rows) ≤ length s → withRow (rowsPut j rows s) j row ≡ rowsPut n (row ∷ rows) s
+unfolding rowsPut rowsBytes
 row-before n rows s j row next fits =
     let front : 20 + 12 * (j - 1) ≡ 20 + 12 * n = omega arith in
     let end : n + suc (length rows) ≡ j + length rows = omega arith in
@@ -56,21 +56,21 @@ row-before n rows s j row next fits =
 
 module _ (h : Heading) (rows : List Row) (s : List ℕ) (fits : sheetNeeded (length rows) ≤ length s) where
   -- the header after all records
-  pub heading-last : withHeading (rowsFrom 0 rows s) h ≡ sheetAfter h rows s
-  unfolding rowsFrom sheetAfter
+  pub heading-last : withHeading (rowsPut 0 rows s) h ≡ sheetAfter h rows s
+  unfolding rowsPut sheetAfter
   heading-last =
       rw (zero-add (length rows))
       (splice-before s (headingBytes h) (rowsBytes rows) 0 20 (20 + 12 * length rows) (rw length-heading) (rw length-rows) fits)
 
   -- the header before them
-  pub heading-first : rowsFrom 0 rows (withHeading s h) ≡ sheetAfter h rows s
-  unfolding rowsFrom sheetAfter
+  pub heading-first : rowsPut 0 rows (withHeading s h) ≡ sheetAfter h rows s
+  unfolding rowsPut sheetAfter
   heading-first =
       rw (zero-add (length rows))
       (splice-next s (headingBytes h) (rowsBytes rows) 0 20 (20 + 12 * length rows) (rw length-heading) (rw length-rows) fits)
 
-pub forward-from : (rows : List Row) (k : ℕ) (s : List ℕ) → k ≤ length rows → forward rows k s ≡ rowsFrom 0 (take k rows) s
-unfolding forward rowsFrom
+pub forward-from : (rows : List Row) (k : ℕ) (s : List ℕ) → k ≤ length rows → forward rows k s ≡ rowsPut 0 (take k rows) s
+unfolding forward rowsPut
 forward-from rows k s most = rw (length-take-le k rows most, zero-add k)
 
 pub forward-start : (rows : List Row) (s : List ℕ) → forward rows 0 s ≡ s
@@ -90,8 +90,8 @@ pub forward-end : (h : Heading) (rows : List Row) (s : List ℕ) → sheetNeeded
 forward-end h rows s fits =
     rw (forward-from rows (length rows) s (omega arith), take-length rows) (heading-last h rows s fits)
 
-pub backward-from : (rows : List Row) (k : ℕ) (s : List ℕ) → k ≤ length rows → backward rows k s ≡ rowsFrom k (drop k rows) s
-unfolding backward rowsFrom
+pub backward-from : (rows : List Row) (k : ℕ) (s : List ℕ) → k ≤ length rows → backward rows k s ≡ rowsPut k (drop k rows) s
+unfolding backward rowsPut
 backward-from rows k s most =
     let end : k + (length rows - k) ≡ length rows = omega arith in
     rw (length-drop k rows, end)

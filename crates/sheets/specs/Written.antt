@@ -7,8 +7,8 @@ use Rattle.sheets.specs.declared.Row.{Row}
 use Rattle.sheets.specs.Sheet.{headingOf, rowsBytes, sheetNeeded, mostMoves}
 
 -- the sheet with these records behind its first n
-unfoldable pub rowsFrom : ℕ → List Row → List ℕ → List ℕ
-rowsFrom n rows s = take (20 + 12 * n) s ++ rowsBytes rows ++ drop (20 + 12 * (n + length rows)) s
+unfoldable pub rowsPut : ℕ → List Row → List ℕ → List ℕ
+rowsPut n rows s = take (20 + 12 * n) s ++ rowsBytes rows ++ drop (20 + 12 * (n + length rows)) s
 
 -- the sheet with the first k of the records
 unfoldable pub forward : List Row → ℕ → List ℕ → List ℕ
