@@ -18,7 +18,7 @@ use Rattle.candidates.specs.declared.Bound.{Bound}
 use Rattle.candidates.specs.Candidates.{stateOf, statesOf, resultAt, rankNumber}
 use Rattle.candidates.specs.Next.{NextIs}
 use Rattle.winners.specs.Keys.{noKey, keyAt, Small}
-use Rattle.winners.specs.Mending.{Advanced, Leads}
+use Rattle.winners.specs.Mending.{Advanced, LeastKey}
 use Rattle.winners.proofs.Ranks.{rank-low, number-low}
 use Rattle.winners.proofs.Keys.{candidate, key-open, key-below, key-has, result-small}
 use Rattle.winners.proofs.Steps.{leads}
@@ -45,7 +45,7 @@ later-key c c′ r r′ small small′ low low′ few later = go (decLe (rankNum
 
 module _ (map : List ℕ) (run : Run) (ok : Accepted map run) {ws hs ss fs : List ℕ} {n : ℕ} (U : Underway map run ws hs ss fs n) (r : ℕ) (c : State) (won : Chosen map run ws n r c)
     (ws′ : List ℕ) (v : ℕ) (next : NextIs (tripIn map run) (statesOf ws n) (stateOf (labelAt ws r)) (Bound.Above c) v) (A : Advanced map run ws ws′ n r v) where
-  leads′ : Leads (tripIn map run) ws′ n (winnerOf ws′ 1)
+  leads′ : LeastKey (tripIn map run) ws′ n (winnerOf ws′ 1)
   leads′ = leads (tripIn map run) ws′ n (U .low) (A .tree)
 
   small : Small c
@@ -55,7 +55,7 @@ module _ (map : List ℕ) (run : Run) (ok : Accepted map run) {ws hs ss fs : Lis
   key-is : keyAt (tripIn map run) ws r ≡ rankNumber c * 4294967296 + r
   key-is = key-open (tripIn map run) ws r (won .low) (won .has) ∙ ap (λ (z : State). rankNumber z * 4294967296 + r) (sym (won .is))
 
-  module _ (r′ : ℕ) (L′ : Leads (tripIn map run) ws′ n r′) (low′ : 1 ≤ r′) (has′ : 1 ≤ cursorOf ws′ r′) where
+  module _ (r′ : ℕ) (L′ : LeastKey (tripIn map run) ws′ n r′) (low′ : 1 ≤ r′) (has′ : 1 ≤ cursorOf ws′ r′) where
     small′ : Small (candidate (tripIn map run) ws′ r′)
     small′ =
         result-small map run ok (stateOf (labelAt ws′ r′)) (cursorOf ws′ r′) (A .ready r′ low′ (L′ .within) .range) (A .ready r′ low′ (L′ .within) .cursor has′)

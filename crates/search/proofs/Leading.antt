@@ -14,14 +14,14 @@ use Rattle.journeys.proofs.Journeys.{true-T}
 use Rattle.labels.specs.LabelWords.{cursorOf}
 use Rattle.candidates.specs.Candidates.{statesOf}
 use Rattle.winners.specs.Keys.{noKey, keyAt, Ready}
-use Rattle.winners.specs.Mending.{Leads}
+use Rattle.winners.specs.Mending.{LeastKey}
 use Rattle.winners.proofs.Keys.{candidate, key-rank, key-tie}
 use Rattle.winners.proofs.Steps.{none-left}
 use Rattle.settling.specs.Settling.{candidateOf, Winner}
 use Rattle.search.specs.Underway.{cursorsOf}
 use Rattle.search.proofs.Columns.{states-length, cursor-is, candidate-is, cursor-next, candidate-next}
 
-module _ (map : List ℕ) (run : Run) (ok : Accepted map run) (ws : List ℕ) (n : ℕ) (ready : Ready map run ws n) (r : ℕ) (leads : Leads (tripIn map run) ws n r) where
+module _ (map : List ℕ) (run : Run) (ok : Accepted map run) (ws : List ℕ) (n : ℕ) (ready : Ready map run ws n) (r : ℕ) (leads : LeastKey (tripIn map run) ws n r) where
   -- the root's label wins
   pub is-winner : 1 ≤ r → 1 ≤ cursorOf ws r → Winner (tripIn map run) (statesOf ws n) (cursorsOf ws n) (r - 1)
   is-winner low live = record {

@@ -18,7 +18,7 @@ use Rattle.labels.specs.LabelWords.{stride, labelAt, cursorOf, winnerOf}
 use Rattle.labels.specs.Lists as lists
 use Rattle.candidates.specs.Candidates.{stateOf, labelOf, statesOf, resultAt}
 use Rattle.winners.specs.Keys.{noKey, keyAt}
-use Rattle.winners.specs.Mending.{Leads}
+use Rattle.winners.specs.Mending.{LeastKey}
 use Rattle.winners.proofs.Keys.{key-none, key-shut}
 use Rattle.winners.proofs.Steps.{leads}
 use Rattle.search.specs.declared.Turn.{Turn}
@@ -39,16 +39,16 @@ module _ (map : List ℕ) (run : Run) (c : State) where
 
 module _ (map : List ℕ) (run : Run) (ok : Accepted map run) {ws hs ss fs : List ℕ} {n : ℕ} (U : Underway map run ws hs ss fs n) where
   -- the label that leads, with a candidate, has the lowest
-  pub leader-chosen : (r : ℕ) (c : State) → 1 ≤ r → Leads (tripIn map run) ws n r → 1 ≤ cursorOf ws r
+  pub leader-chosen : (r : ℕ) (c : State) → 1 ≤ r → LeastKey (tripIn map run) ws n r → 1 ≤ cursorOf ws r
       → c ≡ resultAt (tripIn map run) (stateOf (labelAt ws r)) (cursorOf ws r) → Chosen map run ws n r c
   leader-chosen r c low lead has is =
       record { low = low; high = lead .within; has = has; is = is; winner = is-winner map run ok ws n (U .ready) r lead low has }
 
   -- a leader without a candidate: there is none
-  pub leader-none : Leads (tripIn map run) ws n 0 → EndsWithout map run ws n
+  pub leader-none : LeastKey (tripIn map run) ws n 0 → EndsWithout map run ws n
   leader-none lead = ends-without map run ok U 0 lead (omega (arith, key-none (tripIn map run) ws))
 
-  pub leader-shut : (r : ℕ) → Leads (tripIn map run) ws n r → cursorOf ws r ≡ 0 → EndsWithout map run ws n
+  pub leader-shut : (r : ℕ) → LeastKey (tripIn map run) ws n r → cursorOf ws r ≡ 0 → EndsWithout map run ws n
   leader-shut r lead shut = ends-without map run ok U r lead (omega (arith, key-shut (tripIn map run) ws r shut))
 
   -- the target is reached

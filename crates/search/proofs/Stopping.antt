@@ -20,7 +20,7 @@ use Rattle.labels.specs.LabelWords.{settled}
 use Rattle.labels.specs.Lists as lists
 use Rattle.candidates.specs.Candidates.{stateOf, labelOf, statesOf}
 use Rattle.winners.specs.Keys.{noKey, keyAt}
-use Rattle.winners.specs.Mending.{Leads}
+use Rattle.winners.specs.Mending.{LeastKey}
 use Rattle.winners.proofs.Steps.{only-refl}
 use Rattle.settling.specs.Settling.{candidateOf, Ended}
 use Rattle.settling.proofs.Endings.{exhausted, turn-full, turn-found}
@@ -38,7 +38,7 @@ state-covered ws n t (s, member, over) =
 
 module _ (map : List ℕ) (run : Run) (ok : Accepted map run) {ws hs ss fs : List ℕ} {n : ℕ} (U : Underway map run ws hs ss fs n) where
   -- no candidate is left
-  pub ends-without : (r : ℕ) → Leads (tripIn map run) ws n r → noKey ≤ keyAt (tripIn map run) ws r → Ended (tripIn map run) none (statesOf ws n) (parentsOf ws n)
+  pub ends-without : (r : ℕ) → LeastKey (tripIn map run) ws n r → noKey ≤ keyAt (tripIn map run) ws r → Ended (tripIn map run) none (statesOf ws n) (parentsOf ws n)
   ends-without r leads shut =
       exhausted (tripIn map run) (run-sound map run ok) (statesOf ws n) (cursorsOf ws n) (parentsOf ws n) (U .loop) (all-shut map run ok ws n (U .ready) r leads shut)
 

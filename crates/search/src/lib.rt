@@ -14,7 +14,7 @@ ghost use Rattle.labels.specs.LabelWords.{stride, labelAt, cursorOf, winnerOf};
 ghost use Rattle.labels.specs.Lists.{Lists, LabelAdded};
 ghost use Rattle.candidates.specs.Candidates.{stateOf, labelOf, statesOf, resultAt};
 ghost use Rattle.winners.specs.Keys.{keyAt, Sound};
-ghost use Rattle.winners.specs.Mending.{Leads};
+ghost use Rattle.winners.specs.Mending.{LeastKey};
 ghost use Rattle.search.specs.Underway.{Underway, Chosen, Onward};
 ghost use Rattle.search.specs.Turns.{TurnSays, OutcomeSays};
 ghost use Rattle.search.specs.Beginning.{AllAre, Begun};
@@ -179,7 +179,7 @@ fn offer(
 ) -> Turn
     requires { ⌜ Accepted (now map) run ⌝ }
     requires { ⌜ Underway (now map) run (now words) (now heads) (now spells) (now shifts) n ⌝ }
-    requires { ⌜ (1 ≤ w) × Leads (tripIn (now map) run) (now words) n w × (1 ≤ cursorOf (now words) w) ⌝ }
+    requires { ⌜ (1 ≤ w) × LeastKey (tripIn (now map) run) (now words) n w × (1 ≤ cursorOf (now words) w) ⌝ }
     requires { ⌜ (n ≤ fit) × (fit ≤ 1000000) × (stride * fit ≤ length (now words)) ⌝ }
     ensures { λ r. ⌜ TurnSays (now (map .entry)) run fit (keyAt (tripIn (now (map .entry)) run) (now (words .entry)) w) n (now (words .exit)) (now (heads .exit)) (now (spells .exit)) (now (shifts .exit)) r ⌝ }
 {

@@ -21,7 +21,7 @@ use Rattle.labels.proofs.Tree.{under-self, beyond, beside, changed, mend-first,
 use Rattle.candidates.specs.Candidates.{stateOf, Cursor}
 use Rattle.winners.specs.declared.Contender.{Contender}
 use Rattle.winners.specs.Keys.{noKey, keyAt, Sound, Ready, OnlyWinners}
-use Rattle.winners.specs.Mending.{Stands, Named, Best, Decided, Carries, Climbed, Mended, Advanced, Enters, Placed, Leads}
+use Rattle.winners.specs.Mending.{Stands, Named, Best, Decided, Carries, Climbed, Mended, Advanced, Enters, Placed, LeastKey}
 use Rattle.winners.proofs.Keys.{key-none, key-below, key-top, same-key, same-sound, only-labels, key-kept, ready-kept}
 use Rattle.winners.proofs.Contenders.{best-better, stands-kept}
 
@@ -245,12 +245,12 @@ module _ {ws ws′ : List ℕ} {n : ℕ} {label : Label} {parent cursor : ℕ} (
           })
 
 -- The root's winner leads.
-pub leads : (trip : Trip) (ws : List ℕ) (n : ℕ) → 1 ≤ n → Tree (keyAt trip ws) ws n → Leads trip ws n (winnerOf ws 1)
+pub leads : (trip : Trip) (ws : List ℕ) (n : ℕ) → 1 ≤ n → Tree (keyAt trip ws) ws n → LeastKey trip ws n (winnerOf ws 1)
 leads trip ws n low T = record { within = root-small (keyAt trip ws) ws n low T; least = root-least (keyAt trip ws) ws n low T }
 
 -- where it has no candidate, no label has one
 pub none-left :
-    (map : List ℕ) (run : Run) (ws : List ℕ) (n r : ℕ) → Accepted map run → Ready map run ws n → Leads (tripIn map run) ws n r → noKey ≤ keyAt (tripIn map run) ws r
+    (map : List ℕ) (run : Run) (ws : List ℕ) (n r : ℕ) → Accepted map run → Ready map run ws n → LeastKey (tripIn map run) ws n r → noKey ≤ keyAt (tripIn map run) ws r
     → (m : ℕ) → 1 ≤ m → m ≤ n → cursorOf ws m ≡ 0
 none-left map run ws n r accepted R L none m low high = go (decLe (cursorOf ws m) 0)
   where

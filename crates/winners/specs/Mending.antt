@@ -99,9 +99,9 @@ pub record Placed (map : List ℕ) (run : Run) (ws ws′ : List ℕ) (n j : ℕ)
   pub long : length ws′ ≡ length ws
 
 -- r has the least key of the labels 1 to n; it may be 0 where none has a candidate
-pub record Leads (trip : Trip) (ws : List ℕ) (n r : ℕ) : Type 0 where
+pub record LeastKey (trip : Trip) (ws : List ℕ) (n r : ℕ) : Type 0 where
   pub within : r ≤ n
   pub least : (m : ℕ) → 1 ≤ m → m ≤ n → keyAt trip ws r ≤ keyAt trip ws m
 
 abbrev pub Leading : List ℕ → ℕ → ℕ → Type 0
-Leading ws n r = (trip : Trip) → Tree (keyAt trip ws) ws n → Leads trip ws n r
+Leading ws n r = (trip : Trip) → Tree (keyAt trip ws) ws n → LeastKey trip ws n r

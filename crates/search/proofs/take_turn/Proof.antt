@@ -4,7 +4,7 @@ use native.Mathlib.Omega.{arith}
 use borrow.Author.Needs.{needs}
 use Rattle.moves.specs.Runs.{tripIn}
 use Rattle.labels.specs.LabelWords.{cursorOf}
-use Rattle.winners.specs.Mending.{Leads}
+use Rattle.winners.specs.Mending.{LeastKey}
 use Rattle.search.specs.Turns.{exhausted}
 use Rattle.search.proofs.Offering.{leader-none, leader-shut, root-least, says-below}
 use Rattle.search.proofs.take_turn.Statement.{statement}
@@ -17,7 +17,7 @@ returns c =
     let U = s .pre .1 .0 in
     let none : c .before .leading .result ≡ 0 = c .if1 .taken in
     let lead = c .before .leading .ensures (tripIn (a .map .now) (a .run)) (U .tree) in
-    exhausted (leader-none (a .map .now) (a .run) (s .pre .0) U (subst (Leads (tripIn (a .map .now) (a .run)) (a .words .now) (a .n)) none lead))
+    exhausted (leader-none (a .map .now) (a .run) (s .pre .0) U (subst (LeastKey (tripIn (a .map .now) (a .run)) (a .words .now) (a .n)) none lead))
 
 cursor-requires : tie.Need-cursor-requires
 cursor-requires c κs =
