@@ -23,7 +23,7 @@ use Rattle.candidates.specs.declared.Bound.{Bound}
 use Rattle.candidates.specs.declared.Best.{Best}
 use Rattle.candidates.specs.Candidates.{moveAt, resultAt, Names}
 use Rattle.candidates.specs.Next.{NextIs}
-use Rattle.candidates.specs.Trying.{Weighed, Tried}
+use Rattle.candidates.specs.Trying.{Weighed, BestBelow}
 use Rattle.candidates.proofs.Results.{move-drive, move-break, move-rest, result-break, result-rest}
 use Rattle.candidates.proofs.Trials.{tried-over, tried-next}
 
@@ -126,7 +126,7 @@ module _ (map : List ℕ) (o : Order) (s : State) where
 
   module _ (labels : List State) (bound : Bound) where
     -- where all cursors are tried, the best is the next candidate
-    pub tried-all : (best : Best) → Tried trip labels s bound (roadCount map + 3) best → NextIs trip labels s bound (best .cursor)
+    pub tried-all : (best : Best) → BestBelow trip labels s bound (roadCount map + 3) best → NextIs trip labels s bound (best .cursor)
     tried-all best tried =
         record {
           names = tried .names;
@@ -139,18 +139,18 @@ module _ (map : List ℕ) (o : Order) (s : State) where
         }
 
     -- where there is no car park, the pauses need no trial
-    pub no-pause : (best : Best) → parkIn trip (s .junction) ≡ false → Tried trip labels s bound (roadCount map + 1) best
-        → Tried trip labels s bound (roadCount map + 3) best
+    pub no-pause : (best : Best) → parkIn trip (s .junction) ≡ false → BestBelow trip labels s bound (roadCount map + 1) best
+        → BestBelow trip labels s bound (roadCount map + 3) best
     no-pause best closed tried =
         tried-over trip labels s bound (roadCount map + 1) (roadCount map + 3) best
         (λ c low high named. not-both (named-pause c (omega arith) named) closed) tried
 
     -- at a car park the break and then the rest are tried
     pub break-tried : (best next r : Best) → next .cursor ≡ roadCount map + 1 → parkIn trip (s .junction) ≡ true
-        → next .state ≡ afterBreak (o .rules) s → Weighed o labels bound best next r → Tried trip labels s bound (roadCount map + 1) best
-        → Tried trip labels s bound (roadCount map + 2) r
+        → next .state ≡ afterBreak (o .rules) s → Weighed o labels bound best next r → BestBelow trip labels s bound (roadCount map + 1) best
+        → BestBelow trip labels s bound (roadCount map + 2) r
     break-tried best next r at park is weighed tried =
-        subst (λ (end : ℕ). Tried trip labels s bound end r) (after-k (next .cursor) at)
+        subst (λ (end : ℕ). BestBelow trip labels s bound end r) (after-k (next .cursor) at)
         (tried-next trip labels s bound best next r (rw at tried) (omega arith) (rw (roads-in map o) (omega arith))
         (rw at (break-offered park)) (is ∙ result-break map o s (next .cursor) at) (rw (order-in map o) weighed))
       where
@@ -158,10 +158,10 @@ module _ (map : List ℕ) (o : Order) (s : State) where
         after-k k at = omega arith
 
     pub rest-tried : (best next r : Best) → next .cursor ≡ roadCount map + 2 → parkIn trip (s .junction) ≡ true
-        → next .state ≡ afterRest (o .rules) s → Weighed o labels bound best next r → Tried trip labels s bound (roadCount map + 2) best
-        → Tried trip labels s bound (roadCount map + 3) r
+        → next .state ≡ afterRest (o .rules) s → Weighed o labels bound best next r → BestBelow trip labels s bound (roadCount map + 2) best
+        → BestBelow trip labels s bound (roadCount map + 3) r
     rest-tried best next r at park is weighed tried =
-        subst (λ (end : ℕ). Tried trip labels s bound end r) (after-k (next .cursor) at)
+        subst (λ (end : ℕ). BestBelow trip labels s bound end r) (after-k (next .cursor) at)
         (tried-next trip labels s bound best next r (rw at tried) (omega arith) (rw (roads-in map o) (omega arith))
         (rw at (rest-offered park)) (is ∙ result-rest map o s (next .cursor) (omega arith) (λ e. omega arith)) (rw (order-in map o) weighed))
       where

@@ -16,7 +16,7 @@ use Rattle.moves.specs.Moves.{driven}
 use Rattle.moves.proofs.Trips.{roads-in, order-in}
 use Rattle.candidates.specs.declared.Bound.{Bound}
 use Rattle.candidates.specs.declared.Best.{Best}
-use Rattle.candidates.specs.Trying.{Weighed, Tried}
+use Rattle.candidates.specs.Trying.{Weighed, BestBelow}
 use Rattle.candidates.proofs.Results.{result-drive}
 use Rattle.candidates.proofs.Trials.{tried-none, tried-over, tried-next}
 use Rattle.candidates.proofs.Cursors.{road-offered, named-road}
@@ -66,11 +66,11 @@ module _ (map : List ℕ) (o : Order) (labels : List State) (s : State) (bound :
   pub record Walking (r : ℕ) (best : Best) : Type 0 where
     pub within : r ≤ roadCount map
     pub own : 1 ≤ r → roadFrom map r ≡ s .junction
-    pub tried : Tried (tripOf map o) labels s bound (upTo (roadCount map) r) best
+    pub tried : BestBelow (tripOf map o) labels s bound (upTo (roadCount map) r) best
 
   -- from cursor k on the walk goes to the lowest road of the junction
   ahead : (k n x : ℕ) (best : Best) → k + n ≡ roadCount map + 1 → LowestFrom (roadFrom map) (s .junction) k n x
-      → Tried (tripOf map o) labels s bound k best → Walking x best
+      → BestBelow (tripOf map o) labels s bound k best → Walking x best
   ahead k n x best all at tried =
       let high : x ≤ roadCount map = omega (arith, at .high) in
       record {
@@ -104,5 +104,5 @@ module _ (map : List ℕ) (o : Order) (labels : List State) (s : State) (bound :
         low (rw (roads-in map o) (omega arith)) (road-offered map o s r low high own)
         (is ∙ result-drive map o s r low high) (rw (order-in map o) weighed))
 
-  pub walk-end : (r : ℕ) (best : Best) → Walking r best → r ≤ 0 → Tried (tripOf map o) labels s bound (roadCount map + 1) best
+  pub walk-end : (r : ℕ) (best : Best) → Walking r best → r ≤ 0 → BestBelow (tripOf map o) labels s bound (roadCount map + 1) best
   walk-end r best walking end = rw (at-end (roadCount map) r end) at (walking .tried)

@@ -25,7 +25,7 @@ use Rattle.candidates.specs.declared.Bound.{Bound}
 use Rattle.candidates.specs.declared.Best.{Best}
 use Rattle.candidates.specs.Candidates.{stateOf, labelOf, statesOf, moveAt, resultAt, Names}
 use Rattle.candidates.specs.Next.{aboveBound}
-use Rattle.candidates.specs.Trying.{BelowBest, Beats, Weighed, taken, kept, Tried}
+use Rattle.candidates.specs.Trying.{BelowBest, Beats, Weighed, taken, kept, BestBelow}
 
 -- what a label covers is covered by the state that the label stands for
 pub covered-state : (ws : List ℕ) (n : ℕ) (t : State) → lists.Covered (settled ws n) (labelOf t) → states.Covered covers (statesOf ws n) t
@@ -59,7 +59,7 @@ below-below b t x p q =
 
 module _ (trip : Trip) (labels : List State) (s : State) (bound : Bound) where
   -- nothing is tried yet
-  pub tried-none : (t : State) → Tried trip labels s bound 1 (record { cursor = 0; state = t })
+  pub tried-none : (t : State) → BestBelow trip labels s bound 1 (record { cursor = 0; state = t })
   tried-none t =
       record {
         names = λ some. absurd (omega arith);
@@ -69,7 +69,7 @@ module _ (trip : Trip) (labels : List State) (s : State) (bound : Bound) where
       }
 
   -- cursors that name no legal move need no trial
-  pub tried-over : (a b : ℕ) (best : Best) → ((c : ℕ) → a ≤ c → c < b → Names trip s c → ⊥) → Tried trip labels s bound a best → Tried trip labels s bound b best
+  pub tried-over : (a b : ℕ) (best : Best) → ((c : ℕ) → a ≤ c → c < b → Names trip s c → ⊥) → BestBelow trip labels s bound a best → BestBelow trip labels s bound b best
   tried-over a b best none tried =
       record {
         names = tried .names;
@@ -83,9 +83,9 @@ module _ (trip : Trip) (labels : List State) (s : State) (bound : Bound) where
       }
 
   -- one more trial, of a cursor that names an offered move
-  pub tried-next : (best next r : Best) → Tried trip labels s bound (next .cursor) best → 1 ≤ next .cursor → next .cursor ≤ roadsIn trip + 2
+  pub tried-next : (best next r : Best) → BestBelow trip labels s bound (next .cursor) best → 1 ≤ next .cursor → next .cursor ≤ roadsIn trip + 2
       → offers trip s (moveAt trip s (next .cursor)) ≡ true → next .state ≡ resultAt trip s (next .cursor)
-      → Weighed (trip .order) labels bound best next r → Tried trip labels s bound (next .cursor + 1) r
+      → Weighed (trip .order) labels bound best next r → BestBelow trip labels s bound (next .cursor + 1) r
   tried-next best next r tried low high offered is (taken better) =
       record {
         names = λ some. record { low = low; high = high; offered = offered; lawful = rw (← is) (better .lawful) };

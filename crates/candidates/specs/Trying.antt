@@ -31,7 +31,7 @@ pub data Weighed (order : Order) (labels : List State) (bound : Bound) (best nex
   kept : (Beats order bound best (next .state) → Covered covers labels (next .state)) → Weighed order labels bound best next best
 
 -- of the cursors below the given one this is the best
-pub record Tried (trip : Trip) (labels : List State) (s : State) (bound : Bound) (end : ℕ) (best : Best) : Type 0 where
+pub record BestBelow (trip : Trip) (labels : List State) (s : State) (bound : Bound) (end : ℕ) (best : Best) : Type 0 where
   pub names : 1 ≤ best .cursor → Names trip s (best .cursor)
   pub is : 1 ≤ best .cursor → best .state ≡ resultAt trip s (best .cursor)
   pub above : 1 ≤ best .cursor → T (aboveBound bound (best .state))

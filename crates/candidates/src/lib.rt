@@ -8,7 +8,7 @@ ghost use Rattle.journeys.specs.Ranked.{ranksNoHigher};
 ghost use Rattle.labels.specs.Lists.{Lists, Says};
 ghost use Rattle.candidates.specs.Candidates.{stateOf, labelOf, statesOf, resultAt, Names};
 ghost use Rattle.candidates.specs.Next.{aboveBound, NextIs};
-ghost use Rattle.candidates.specs.Trying.{Beats, Weighed, Tried};
+ghost use Rattle.candidates.specs.Trying.{Beats, Weighed, BestBelow};
 use driving::Order;
 use labels::Label;
 use moves::Run;
@@ -148,7 +148,7 @@ fn best_road(
     requires { ⌜ Accepted (now map) run ⌝ }
     requires { ⌜ InRange (junctionCount (now map)) (run .order) state ⌝ }
     requires { ⌜ Lists (now words) (now heads) (now spells) (now shifts) n × (junctionCount (now map) < length (now heads)) ⌝ }
-    ensures { λ r. ⌜ Tried (tripIn (now (map .entry)) run) (statesOf (now (words .entry)) n) state bound (roadCount (now (map .entry)) + 1) r ⌝ }
+    ensures { λ r. ⌜ BestBelow (tripIn (now (map .entry)) run) (statesOf (now (words .entry)) n) state bound (roadCount (now (map .entry)) + 1) r ⌝ }
 {
     let sizes = run.sizes;
     let order = run.order;
@@ -182,8 +182,8 @@ fn best_pause(
     requires { ⌜ Accepted (now map) run ⌝ }
     requires { ⌜ InRange (junctionCount (now map)) (run .order) state ⌝ }
     requires { ⌜ Lists (now words) (now heads) (now spells) (now shifts) n × (junctionCount (now map) < length (now heads)) ⌝ }
-    requires { ⌜ Tried (tripIn (now map) run) (statesOf (now words) n) state bound (roadCount (now map) + 1) best ⌝ }
-    ensures { λ r. ⌜ Tried (tripIn (now (map .entry)) run) (statesOf (now (words .entry)) n) state bound (roadCount (now (map .entry)) + 3) r ⌝ }
+    requires { ⌜ BestBelow (tripIn (now map) run) (statesOf (now words) n) state bound (roadCount (now map) + 1) best ⌝ }
+    ensures { λ r. ⌜ BestBelow (tripIn (now (map .entry)) run) (statesOf (now (words .entry)) n) state bound (roadCount (now (map .entry)) + 3) r ⌝ }
 {
     let order = run.order;
     let roads = run.sizes.roads;
