@@ -13,14 +13,13 @@ use Rattle.driving.specs.declared.Order.{Order}
 use Rattle.moves.specs.declared.State.{State}
 use Rattle.moves.specs.Trip.{Trip, roadsIn}
 use Rattle.moves.specs.Moves.{offers, legal}
-use Rattle.theory.specs.States as states
+use Rattle.theory.specs.States.{Covered}
 use Rattle.theory.proofs.Sorting.{le-of-not, never-self}
 use Rattle.journeys.specs.Ranked.{covers, ranksNoHigher}
 use Rattle.journeys.proofs.Journeys.{T-true, true-T}
 use Rattle.journeys.proofs.Ranked.{rank-order, slack-covers}
 use Rattle.labels.specs.LabelWords.{settled}
-use Rattle.labels.specs.Lists as lists
-use Rattle.labels.specs.Lists.{Says}
+use Rattle.labels.specs.Lists.{SomeCovers, Says}
 use Rattle.candidates.specs.declared.Bound.{Bound}
 use Rattle.candidates.specs.declared.Best.{Best}
 use Rattle.candidates.specs.Candidates.{stateOf, labelOf, statesOf, moveAt, resultAt, Names}
@@ -28,7 +27,7 @@ use Rattle.candidates.specs.Next.{aboveBound}
 use Rattle.candidates.specs.Trying.{BelowBest, Beats, Weighed, taken, kept, BestBelow}
 
 -- what a label covers is covered by the state that the label stands for
-pub covered-state : (ws : List ℕ) (n : ℕ) (t : State) → lists.Covered (settled ws n) (labelOf t) → states.Covered covers (statesOf ws n) t
+pub covered-state : (ws : List ℕ) (n : ℕ) (t : State) → SomeCovers (settled ws n) (labelOf t) → Covered covers (statesOf ws n) t
 covered-state ws n t (a, at, over) =
     (stateOf a, Memᴰ·map stateOf at, slack-covers (stateOf a) t (record { same = over .here; clock = omega arith; spell = omega arith; shift = omega arith }))
 

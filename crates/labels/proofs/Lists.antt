@@ -10,7 +10,7 @@ use lib.ListN.{length, getD, set, length-set}
 use lib.Seq.{getD-set-same, getD-set-other}
 use Rattle.labels.specs.declared.Label.{Label}
 use Rattle.labels.specs.LabelWords.{stride, largestWord, junctionField, spellField, shiftField, parentField, winnerField, at, field, junctionOf, previousOf, labelAt, settled, Same, SameLabels, Added}
-use Rattle.labels.specs.Lists.{Covers, Covered, Last, Heads, LeastAt, Leasts, Lists, Lowered}
+use Rattle.labels.specs.Lists.{Covers, SomeCovers, Last, Heads, LeastAt, Leasts, Lists, Lowered}
 use Rattle.labels.proofs.LabelWords.{settled-mem, mem-settled, kept-field, kept-labels, set-labels}
 
 -- no label: no head, and nothing lowered
@@ -66,22 +66,22 @@ pub record Past (ws : List ℕ) (n : ℕ) (label : Label) (k : ℕ) : Type 0 whe
   pub here : 1 ≤ k → label .junction ≡ junctionOf ws k
   pub none : (m : ℕ) → k < m → m ≤ n → Covers (labelAt ws m) label → ⊥
 
-pub covered-by : (ws : List ℕ) (n k : ℕ) (label : Label) → 1 ≤ k → k ≤ n → Covers (labelAt ws k) label → Covered (settled ws n) label
+pub covered-by : (ws : List ℕ) (n k : ℕ) (label : Label) → 1 ≤ k → k ≤ n → Covers (labelAt ws k) label → SomeCovers (settled ws n) label
 covered-by ws n k label low high C = (labelAt ws k, settled-mem ws n k low high, C)
 
 -- what no label of 1 .. n covers is not covered
 pub not-covered :
-    (ws : List ℕ) (n : ℕ) (label : Label) → ((k : ℕ) → 1 ≤ k → k ≤ n → Covers (labelAt ws k) label → ⊥) → Covered (settled ws n) label → ⊥
+    (ws : List ℕ) (n : ℕ) (label : Label) → ((k : ℕ) → 1 ≤ k → k ≤ n → Covers (labelAt ws k) label → ⊥) → SomeCovers (settled ws n) label → ⊥
 not-covered ws n label none C =
     let N = mem-settled ws n (C .0) (C .1) in
     none (N .k) (N .low) (N .high) (subst (λ a. Covers a label) (N .is) (C .2))
 
 module _ {ws hs ss fs : List ℕ} {n : ℕ} (label : Label) (L : Lists ws hs ss fs n) (known : label .junction < length hs) where
-  pub least-spell-above : label .spell < getD ss (label .junction) 0 → Covered (settled ws n) label → ⊥
+  pub least-spell-above : label .spell < getD ss (label .junction) 0 → SomeCovers (settled ws n) label → ⊥
   least-spell-above h =
       not-covered ws n label (λ k low high C. omega (arith, C .spell, L .spells (label .junction) (omega (arith, L .as-many-spells)) .below k low high (C .here)))
 
-  pub least-shift-above : label .shift < getD fs (label .junction) 0 → Covered (settled ws n) label → ⊥
+  pub least-shift-above : label .shift < getD fs (label .junction) 0 → SomeCovers (settled ws n) label → ⊥
   least-shift-above h =
       not-covered ws n label (λ k low high C. omega (arith, C .shift, L .shifts (label .junction) (omega (arith, L .as-many-shifts)) .below k low high (C .here)))
 
@@ -108,7 +108,7 @@ module _ {ws hs ss fs : List ℕ} {n : ℕ} (label : Label) (L : Lists ws hs ss 
       go m a b C (no e) (yes d) = H .skip m a (omega arith) (C .here ∙ P .here low)
       go m a b C (no e) (no d) = P .none m (omega arith) b C
 
-pub walk-end : {ws : List ℕ} {n k : ℕ} {label : Label} → Past ws n label k → k ≤ 0 → Covered (settled ws n) label → ⊥
+pub walk-end : {ws : List ℕ} {n k : ℕ} {label : Label} → Past ws n label k → k ≤ 0 → SomeCovers (settled ws n) label → ⊥
 walk-end {ws} {n} {label} P h = not-covered ws n label (λ m low high. P .none m (omega arith) high)
 
 -- Lowering.

@@ -17,8 +17,8 @@ pub record Covers (a b : Label) : Type 0 where
   pub shift : a .shift ≤ b .shift
 
 -- one of the labels covers b
-abbrev pub Covered : List Label → Label → Type 0
-Covered labels b = (a : Label) × List·Memᴰ a labels × Covers a b
+abbrev pub SomeCovers : List Label → Label → Type 0
+SomeCovers labels b = (a : Label) × List·Memᴰ a labels × Covers a b
 
 -- the answer says whether P holds
 abbrev pub Says : Type 0 → Bool → Type 0

@@ -4,7 +4,7 @@ ghost use mathlib.Core.List.{[], _∷_};
 ghost use Prim.Native.Nat.{_+_, _*_, _<_, _≤_};
 ghost use lib.ListN.{length, set};
 ghost use Rattle.labels.specs.LabelWords.{stride, cursorField, winnerField, at, field, labelAt, clockOf, parentOf, cursorOf, winnerOf, previousOf, settled, puts, WinnerWithin};
-ghost use Rattle.labels.specs.Lists.{Lists, LabelAdded, Covers, Covered, Says, Lowered};
+ghost use Rattle.labels.specs.Lists.{Lists, LabelAdded, Covers, SomeCovers, Says, Lowered};
 
 // A label's eight words, in order: what it is, and how the search goes on from it.
 const STRIDE: usize = 8;
@@ -138,7 +138,7 @@ pub fn covered(
     label: Label,
 ) -> bool
     requires { ⌜ Lists (now words) (now heads) (now spells) (now shifts) n × (label .junction < length (now heads)) ⌝ }
-    ensures { λ r. ⌜ Says (Covered (settled (now (words .entry)) n) label) r ⌝ }
+    ensures { λ r. ⌜ Says (SomeCovers (settled (now (words .entry)) n) label) r ⌝ }
 {
     let j = label.junction as usize;
     if label.spell < spells[j] {

@@ -10,12 +10,12 @@ use Rattle.moves.specs.declared.State.{State}
 use Rattle.moves.specs.declared.Run.{Run}
 use Rattle.moves.specs.Runs.{Accepted, tripIn}
 use Rattle.moves.specs.Trip.{tripOf}
-use Rattle.theory.specs.States as states
+use Rattle.theory.specs.States.{Covered}
 use Rattle.journeys.specs.Journeys.{atTarget}
 use Rattle.journeys.specs.Ranked.{covers}
 use Rattle.journeys.proofs.Journeys.{true-T}
 use Rattle.labels.specs.LabelWords.{stride, labelAt, cursorOf, winnerOf}
-use Rattle.labels.specs.Lists as lists
+use Rattle.labels.specs.Lists.{LabelAdded}
 use Rattle.candidates.specs.Candidates.{stateOf, labelOf, statesOf, resultAt}
 use Rattle.winners.specs.Keys.{noKey, keyAt}
 use Rattle.winners.specs.Mending.{LeastKey}
@@ -52,8 +52,8 @@ module _ (map : List ℕ) (run : Run) (ok : Accepted map run) {ws hs ss fs : Lis
   leader-shut r lead shut = ends-without map run ok U r lead (omega (arith, key-shut (tripIn map run) ws r shut))
 
   -- the target is reached
-  pub reaches : (r : ℕ) (c : State) → Chosen map run ws n r c → (states.Covered covers (statesOf ws n) c → ⊥) → c .junction ≡ run .order .target
-      → {ws₁ hs′ ss′ fs′ : List ℕ} → lists.LabelAdded ws ws₁ hs′ ss′ fs′ n (labelOf c) r 0 → EndsFound map run ws₁ (n + 1)
+  pub reaches : (r : ℕ) (c : State) → Chosen map run ws n r c → (Covered covers (statesOf ws n) c → ⊥) → c .junction ≡ run .order .target
+      → {ws₁ hs′ ss′ fs′ : List ℕ} → LabelAdded ws ws₁ hs′ ss′ fs′ n (labelOf c) r 0 → EndsFound map run ws₁ (n + 1)
   reaches r c won new home {ws₁} {hs′} {ss′} {fs′} added =
       record {
         answer = c;

@@ -10,14 +10,14 @@ use Rattle.moves.specs.declared.State.{State}
 use Rattle.moves.specs.declared.Run.{Run}
 use Rattle.moves.specs.Runs.{Accepted, tripIn}
 use Rattle.moves.proofs.Rising.{run-sound}
-use Rattle.theory.specs.States as states
+use Rattle.theory.specs.States.{Covered}
 use Rattle.journeys.specs.Journeys.{atTarget}
 use Rattle.journeys.specs.Labels.{labelCount}
 use Rattle.journeys.specs.Ranked.{covers}
 use Rattle.journeys.proofs.Ranked.{covers-slack}
 use Rattle.labels.specs.declared.Label.{Label}
 use Rattle.labels.specs.LabelWords.{settled}
-use Rattle.labels.specs.Lists as lists
+use Rattle.labels.specs.Lists.{SomeCovers, LabelAdded}
 use Rattle.candidates.specs.Candidates.{stateOf, labelOf, statesOf}
 use Rattle.winners.specs.Keys.{noKey, keyAt}
 use Rattle.winners.specs.Mending.{LeastKey}
@@ -30,7 +30,7 @@ use Rattle.search.proofs.Leading.{all-shut}
 use Rattle.search.proofs.Turning.{loop-candidate}
 
 -- a state that a label's state covers is covered as a label is
-pub state-covered : (ws : List ℕ) (n : ℕ) (t : State) → states.Covered covers (statesOf ws n) t → lists.Covered (settled ws n) (labelOf t)
+pub state-covered : (ws : List ℕ) (n : ℕ) (t : State) → Covered covers (statesOf ws n) t → SomeCovers (settled ws n) (labelOf t)
 state-covered ws n t (s, member, over) =
     let from = Memᴰ·of-map stateOf (settled ws n) member in
     let slack = covers-slack (stateOf (from .0)) t (subst (λ (z : State). T (covers z t)) (sym (from .2)) over) in
@@ -42,9 +42,9 @@ module _ (map : List ℕ) (run : Run) (ok : Accepted map run) {ws hs ss fs : Lis
   ends-without r leads shut =
       exhausted (tripIn map run) (run-sound map run ok) (statesOf ws n) (cursorsOf ws n) (parentsOf ws n) (U .loop) (all-shut map run ok ws n (U .ready) r leads shut)
 
-  module _ (r : ℕ) (c : State) (won : Chosen map run ws n r c) (new : states.Covered covers (statesOf ws n) c → ⊥) where
-    loop-new : ¬ states.Covered covers (statesOf ws n) (candidateOf (tripIn map run) (statesOf ws n) (cursorsOf ws n) (r - 1))
-    loop-new = subst (λ (z : State). ¬ states.Covered covers (statesOf ws n) z) (sym (loop-candidate map run U r c won)) new
+  module _ (r : ℕ) (c : State) (won : Chosen map run ws n r c) (new : Covered covers (statesOf ws n) c → ⊥) where
+    loop-new : ¬ Covered covers (statesOf ws n) (candidateOf (tripIn map run) (statesOf ws n) (cursorsOf ws n) (r - 1))
+    loop-new = subst (λ (z : State). ¬ Covered covers (statesOf ws n) z) (sym (loop-candidate map run U r c won)) new
 
     -- one more label than these
     pub more-labels : n < labelCount (tripIn map run)
@@ -52,7 +52,7 @@ module _ (map : List ℕ) (run : Run) (ok : Accepted map run) {ws hs ss fs : Lis
         omega (arith, states-length (tripIn map run) ws n, turn-full (tripIn map run) (run-sound map run ok) (statesOf ws n) (cursorsOf ws n) (parentsOf ws n) (U .loop) (r - 1) (won .winner) loop-new)
 
     -- at target: the candidate is the answer, and the last label
-    pub ends-found : T (atTarget (tripIn map run) c) → (ws₁ hs′ ss′ fs′ : List ℕ) (u : ℕ) → lists.LabelAdded ws ws₁ hs′ ss′ fs′ n (labelOf c) r u
+    pub ends-found : T (atTarget (tripIn map run) c) → (ws₁ hs′ ss′ fs′ : List ℕ) (u : ℕ) → LabelAdded ws ws₁ hs′ ss′ fs′ n (labelOf c) r u
         → Ended (tripIn map run) (some c) (statesOf ws₁ (n + 1)) (parentsOf ws₁ (n + 1))
     ends-found home ws₁ hs′ ss′ fs′ u A =
         let back : r - 1 + 1 ≡ r = omega (arith, won .low) in

@@ -5,7 +5,7 @@ use lib.ListN.{length}
 use borrow.Author.Needs.{needs}
 use Rattle.labels.specs.declared.Label.{Label}
 use Rattle.labels.specs.LabelWords.{settled}
-use Rattle.labels.specs.Lists.{Says, Covered}
+use Rattle.labels.specs.Lists.{Says, SomeCovers}
 use Rattle.candidates.proofs.Trials.{covered-state}
 use Rattle.search.specs.Turns.{goes}
 use Rattle.search.proofs.Turning.{chosen-range}
@@ -44,7 +44,7 @@ pass-over-requires c κs =
         s .pre .1 .0,
         (
           leader-chosen (a .map .now) (a .run) (s .pre .0) (s .pre .1 .0) (a .w) candidate (lead .0) (lead .1) (lead .2) (c .before .before .before .before .before .before .before .before .before .before .before .candidate-at .ensures),
-          covered-state (a .words .now) (a .n) candidate (subst (λ (l : Label). Covered (settled (a .words .now) (a .n)) l) (c .before .before .before .before .before .before .before .before .before .before .label-of .ensures) says),
+          covered-state (a .words .now) (a .n) candidate (subst (λ (l : Label). SomeCovers (settled (a .words .now) (a .n)) l) (c .before .before .before .before .before .before .before .before .before .before .label-of .ensures) says),
         ),
       ),
     )
@@ -65,7 +65,7 @@ settle-requires c κs =
         (
           leader-chosen (a .map .now) (a .run) (s .pre .0) (s .pre .1 .0) (a .w) candidate (lead .0) (lead .1) (lead .2) (c .before .before .before .before .before .before .before .before .before .before .before .candidate-at .ensures),
           (
-            λ over. says (subst (λ (l : Label). Covered (settled (a .words .now) (a .n)) l) (sym (c .before .before .before .before .before .before .before .before .before .before .label-of .ensures)) (state-covered (a .words .now) (a .n) candidate over)),
+            λ over. says (subst (λ (l : Label). SomeCovers (settled (a .words .now) (a .n)) l) (sym (c .before .before .before .before .before .before .before .before .before .before .label-of .ensures)) (state-covered (a .words .now) (a .n) candidate over)),
             s .pre .1 .1 .1,
           ),
         ),
