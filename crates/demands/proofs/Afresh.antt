@@ -23,8 +23,9 @@ use Rattle.moves.specs.Moves.{after}
 use Rattle.moves.specs.Opened.{runTests}
 use Rattle.sheets.specs.declared.Heading.{Heading}
 use Rattle.sheets.specs.declared.Row.{Row}
+use Rattle.sheets.specs.Sheet.{shortSheet}
 use Rattle.retiming.specs.Walk.{Walk, reached, recorded, walk, arrivalOf, stray}
-use Rattle.retiming.specs.Retiming.{movesOn, timing, sheetTests, shortSheet, retimingTests, retimingReply}
+use Rattle.retiming.specs.Retiming.{movesOn, timing, sheetTests, retimingTests, retimingReply}
 use Rattle.retiming.proofs.Walking.{walk-end, walk-moved}
 use Rattle.journeys.specs.Journeys.{startIn, atTarget, Leads, stay, go, Journey}
 use Rattle.journeys.specs.Plan.{planMoves, rowsFrom, planRows}
@@ -74,7 +75,7 @@ module _ {mapA orderA words sheet sheet′ : List ℕ} {answer : Planning} (w : 
   at-target = rw (journey .ends) refl
 
   abbrev late-tests : List Test
-  late-tests = sheetTests (orderOf orderB) (headerAndRecords sheet′) (reached u true-rows) ++ ((14 at shortSheet (movesOn (headerAndRecords sheet′)) out) ∷ [])
+  late-tests = sheetTests (orderOf orderB) (headerAndRecords sheet′) (reached u true-rows) ++ ((14 at shortSheet (movesOn (headerAndRecords sheet′)) (length out)) ∷ [])
 
   none-late : NoneFits late-tests
   none-late = (kept-untorn w, (refl, (at-target, (rw (count-kept, ← length-kept w, le-ltb _ _ long) refl, tt))))

@@ -16,10 +16,10 @@ use Rattle.replies.specs.declared.Reply.{Reply}
 use Rattle.replies.specs.declared.Timing.{Timing}
 use Rattle.replies.specs.First.{_at_, firstOf}
 use Rattle.replies.specs.Told.{succeeded, refusedAt, toldCheck, toldName, toldTiming, toldPlan}
+use Rattle.replies.specs.Pick.{pick}
 use Rattle.mapcheck.specs.MapCheck.{mapTests, chainingTests}
 use Rattle.mapedit.specs.Name.{unknownName, nameReply}
 use Rattle.mapedit.specs.Chaining.{chained, chainingReply, afterChaining, ChainMaking}
-use Rattle.mapedit.specs.Pick.{pick}
 use Rattle.driving.specs.Order.{orderOf, orderTests}
 use Rattle.moves.specs.declared.State.{State}
 use Rattle.moves.specs.declared.Move.{Move}

@@ -6,6 +6,7 @@ use mathlib.Core.Option.{Option, none, some}
 use Prim.Native.Nat.{ℕ, _≤_}
 use native.Mathlib.Omega.{arith}
 use lib.Dec.{T, T-not, lit≤}
+use lib.ListN.{length}
 use Rattle.replies.specs.declared.Reply.{Reply}
 use Rattle.replies.specs.First.{Test, _at_, refusedOr, firstOf, NoneFits}
 use Rattle.replies.specs.Told.{refusedAt}
@@ -17,11 +18,11 @@ use Rattle.mapcheck.specs.MapCheck.{mapTests, chainingTests}
 use Rattle.driving.specs.declared.Order.{Order}
 use Rattle.driving.specs.Order.{orderOf, orderTests}
 use Rattle.retiming.specs.Walk.{Walk, refused, reached, moveTest}
-use Rattle.retiming.specs.Retiming.{movesOn, timing, sheetTests, shortSheet, retimingTests, falseHeader, auditTests}
+use Rattle.retiming.specs.Retiming.{movesOn, timing, sheetTests, retimingTests, falseHeader, auditTests}
 use Rattle.retiming.proofs.Audited.{walk-number}
 use Rattle.mapedit.specs.Name.{unknownName}
 use Rattle.moves.specs.Opened.{runTests}
-use Rattle.sheets.specs.Sheet.{headingOf}
+use Rattle.sheets.specs.Sheet.{headingOf, shortSheet}
 use Rattle.journeys.specs.Planning.{tripFrom, searchTests, planTests}
 use Rattle.demands.specs.Refused.{FirstToFit, RepliesBy}
 
@@ -101,7 +102,7 @@ module _ (map order sheet : List ℕ) where
 
   pub retiming-numbered : (out : List ℕ) → Numbered (retimingTests map order sheet out (walked false))
   retiming-numbered out =
-      numbered-both (runTests map order) (sheetTests (orderOf order) sheet (walked false) ++ ((14 at shortSheet (movesOn sheet) out) ∷ [])) (run-numbered map order)
+      numbered-both (runTests map order) (sheetTests (orderOf order) sheet (walked false) ++ ((14 at shortSheet (movesOn sheet) (length out)) ∷ [])) (run-numbered map order)
       (lit≤ tt, (move-numbered false map (orderOf order) sheet, (lit≤ tt, (lit≤ tt, tt))))
 
   pub audit-numbered : Numbered (auditTests map order sheet (walked true))

@@ -22,10 +22,11 @@ use Rattle.moves.specs.declared.State.{State}
 use Rattle.moves.specs.declared.Move.{Move}
 use Rattle.moves.specs.Trip.{Trip}
 use Rattle.moves.proofs.Rising.{SoundTrip, sound-trip}
+use Rattle.sheets.specs.Sheet.{shortSheet}
 use Rattle.journeys.specs.Journeys.{Journey}
 use Rattle.journeys.specs.Labels.{answerIn, labelCount}
 use Rattle.journeys.specs.Plan.{planMoves, moveCount, bytesNeeded, plannedSheet}
-use Rattle.journeys.specs.Planning.{labelsThatFit, isNone, full, noRoad, shortSheet, searchTests, arrivalOf, planned, tripFrom, planTests, searchReply, planReply, planSheetWhen, planSheet}
+use Rattle.journeys.specs.Planning.{labelsThatFit, isNone, full, noRoad, searchTests, arrivalOf, planned, tripFrom, planTests, searchReply, planReply, planSheetWhen, planSheet}
 use Rattle.journeys.proofs.Labels.{none-answered, some-answered}
 use Rattle.journeys.proofs.Plan.{plan-journey, plan-short}
 
@@ -86,7 +87,7 @@ pub reply-any-fit : (map order : List ℕ) (fit other sheet : ℕ)
 unfolding planReply
 reply-any-fit map order fit other sheet f g =
     let trip = tripFrom map order in
-    same-but-one (mapTests map ++ orderTests (junctionCount map) order) ((13 at noRoad trip) ∷ (14 at shortSheet trip sheet) ∷ []) 12 (full trip fit) (full trip other) (planned trip) f g
+    same-but-one (mapTests map ++ orderTests (junctionCount map) order) ((13 at noRoad trip) ∷ (14 at shortSheet (moveCount trip) sheet) ∷ []) 12 (full trip fit) (full trip other) (planned trip) f g
 
 -- The four answers of a search.
 module _ (trip : Trip) (fit sheet : ℕ) where

@@ -13,8 +13,9 @@ use Rattle.mapcheck.specs.MapCheck.{mapTests}
 use Rattle.driving.specs.Order.{orderOf, orderTests}
 use Rattle.moves.specs.declared.State.{State}
 use Rattle.moves.specs.Trip.{Trip, tripOf}
+use Rattle.sheets.specs.Sheet.{shortSheet}
 use Rattle.journeys.specs.Labels.{answerIn, labelCount}
-use Rattle.journeys.specs.Plan.{bytesNeeded, plannedSheet}
+use Rattle.journeys.specs.Plan.{moveCount, plannedSheet}
 
 -- the labels that fit are the smaller of 1,000,000 and the whole labels in the run; eight words make one label
 abbrev pub labelsThatFit : ℕ → ℕ
@@ -32,13 +33,9 @@ full trip fit = placed (ltb fit (labelCount trip)) fit
 abbrev pub noRoad : Trip → Option ℕ
 noRoad trip = placed (isNone (answerIn trip)) (labelCount trip)
 
--- refusal 14, short sheet: under 20 + 12M
-abbrev pub shortSheet : Trip → ℕ → Option ℕ
-shortSheet trip sheet = placed (ltb sheet (bytesNeeded trip)) (bytesNeeded trip)
-
 -- 12 to 14, with the labels that fit and the sheet's length
 abbrev pub searchTests : Trip → ℕ → ℕ → List Test
-searchTests trip fit sheet = (12 at full trip fit) ∷ (13 at noRoad trip) ∷ (14 at shortSheet trip sheet) ∷ []
+searchTests trip fit sheet = (12 at full trip fit) ∷ (13 at noRoad trip) ∷ (14 at shortSheet (moveCount trip) sheet) ∷ []
 
 abbrev pub arrivalOf : Option State → ℕ
 arrivalOf none = 0

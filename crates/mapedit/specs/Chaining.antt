@@ -9,10 +9,10 @@ use Rattle.replies.specs.declared.Reply.{Reply}
 use Rattle.replies.specs.declared.Check.{Check}
 use Rattle.replies.specs.First.{firstOf}
 use Rattle.replies.specs.Told.{succeeded, toldCheck}
+use Rattle.replies.specs.Pick.{pick}
 use Rattle.roadmap.specs.Format.{junctionCount, roadCount, junctionAt, roadAt, roadFrom}
 use Rattle.mapcheck.specs.Listed.{lowestFrom}
 use Rattle.mapcheck.specs.MapCheck.{chainingTests}
-use Rattle.mapedit.specs.Pick.{pick}
 
 -- the bytes with the value of each of the n numbers from k on, put as a word at its place
 unfoldable pub putAll : (ℕ → ℕ) → (ℕ → ℕ) → ℕ → ℕ → List ℕ → List ℕ

@@ -1,4 +1,3 @@
-pub mod Pick
 pub mod Name
 pub mod Chaining
 pub mod Passes

@@ -7,9 +7,9 @@ use lib.ListN.{take, drop}
 use Rattle.replies.specs.declared.Reply.{Reply}
 use Rattle.replies.specs.First.{_at_, placed, firstOf}
 use Rattle.replies.specs.Told.{succeeded}
+use Rattle.replies.specs.Pick.{pick}
 use Rattle.roadmap.specs.Format.{junctionCount, namesAt, nameStart, nameLength}
 use Rattle.mapcheck.specs.MapCheck.{outside, mapTests}
-use Rattle.mapedit.specs.Pick.{pick}
 
 -- 20 unknown name: junction 0 or above J; junction
 abbrev pub unknownName : List ℕ → ℕ → Option ℕ

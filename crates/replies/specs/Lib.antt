@@ -1,2 +1,3 @@
 pub mod Told
 pub mod First
+pub mod Pick

@@ -27,7 +27,7 @@ use Rattle.sheets.specs.Sheet.{headingOf, rowsOf, sheetNeeded, sheetAfter, torn
 use Rattle.sheets.specs.Written.{Whole}
 use Rattle.sheets.proofs.Reading.{none-whole, length-rows-of, prefix-heading, prefix-rows, prefix-untorn}
 use Rattle.retiming.specs.Walk.{Walk, refused, reached, moveOf, trueRow, recorded, walk, moveTest, stray, arrivalOf, rowSeconds}
-use Rattle.retiming.specs.Retiming.{movesOn, timing, shortSheet, sheetTests, retimingTests, retimingReply, retimedTo, retimedSheet, falseFigures, falseHeader, auditTests, auditReply}
+use Rattle.retiming.specs.Retiming.{movesOn, timing, sheetTests, retimingTests, retimingReply, retimedTo, retimedSheet, falseFigures, falseHeader, auditTests, auditReply}
 use Rattle.retiming.proofs.Walking.{OneRow, stops, passes, one-row, walk-end, walk-moved, moved-to}
 use Rattle.retiming.proofs.Rewriting.{Cut, cut, walk-length}
 use Rattle.retiming.proofs.Retimes.{retimedHeading}

@@ -20,13 +20,13 @@ use Rattle.driving.specs.Order.{orderOf}
 use Rattle.moves.specs.Opened.{runTests}
 use Rattle.moves.specs.declared.State.{State}
 use Rattle.sheets.specs.declared.Heading.{Heading}
-use Rattle.sheets.specs.Sheet.{headingOf, sheetNeeded, sheetAfter, withHeading}
+use Rattle.sheets.specs.Sheet.{headingOf, sheetNeeded, sheetAfter, withHeading, shortSheet}
 use Rattle.sheets.specs.Written.{rowsPut}
 use Rattle.sheets.proofs.Writing.{heading-last}
 use Rattle.sheets.proofs.Reading.{length-rows-of}
 use Rattle.retiming.specs.declared.Walked.{Walked}
 use Rattle.retiming.specs.Walk.{Walk, reached, arrivalOf}
-use Rattle.retiming.specs.Retiming.{movesOn, timing, sheetTests, shortSheet, retimedTo, retimingReply}
+use Rattle.retiming.specs.Retiming.{movesOn, timing, sheetTests, retimedTo, retimingReply}
 use Rattle.retiming.specs.Parts.{SheetSays, rowsReached, RetimedRun, Retimed}
 use Rattle.retiming.proofs.Judging.{arrival-reached}
 use Rattle.retiming.proofs.Rewriting.{reached-is, walk-length}
@@ -52,7 +52,7 @@ module _ (map : List ℕ) (order : Order) (sheet before : List ℕ) where
           reply = rw is
               (sym
               (none-fits (sheetTests order sheet timed) _ _ (ended .1)
-              ∙ stops-at (14 at shortSheet (movesOn sheet) before) [] _ (rw (lt-ltb _ _ needs))));
+              ∙ stops-at (14 at shortSheet (movesOn sheet) (length before)) [] _ (rw (lt-ltb _ _ needs))));
           bytes = refl;
         }
 
@@ -70,8 +70,8 @@ module _ (map : List ℕ) (order : Order) (sheet before : List ℕ) where
         record {
           reply = rw (is, ← arrival-reached timed s (ended .2))
               (sym
-              (none-fits (sheetTests order sheet timed) ((14 at shortSheet (movesOn sheet) before) ∷ []) (succeeded (movesOn sheet) (arrivalOf timed)) (ended .1)
-              ∙ passed-over (14 at shortSheet (movesOn sheet) before) [] (succeeded (movesOn sheet) (arrivalOf timed)) (rw (le-ltb _ _ enough))));
+              (none-fits (sheetTests order sheet timed) ((14 at shortSheet (movesOn sheet) (length before)) ∷ []) (succeeded (movesOn sheet) (arrivalOf timed)) (ended .1)
+              ∙ passed-over (14 at shortSheet (movesOn sheet) (length before)) [] (succeeded (movesOn sheet) (arrivalOf timed)) (rw (le-ltb _ _ enough))));
           bytes = written
               ∙ heading-last (retimedHeading given s) (rowsReached timed) before (rw count enough)
               ∙ ap (λ (h : Heading). sheetAfter (retimedHeading h s) (rowsReached timed) before) is

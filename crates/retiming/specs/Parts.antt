@@ -4,18 +4,20 @@ use mathlib.Core.Bool.{Bool, true, false, not, _&&_}
 use mathlib.Core.List.{List, [], _∷_, _++_}
 use Prim.Native.Nat.{ℕ}
 use lib.Dec.{eqb}
+use lib.ListN.{length}
 use Rattle.replies.specs.declared.Reply.{Reply}
 use Rattle.replies.specs.declared.Timing.{Timing}
 use Rattle.replies.specs.First.{_at_, firstOf, NoneFits, Refuses}
 use Rattle.replies.specs.Told.{refusedAt, succeeded, toldRefusal, toldTiming}
+use Rattle.replies.specs.Pick.{pick}
 use Rattle.driving.specs.declared.Order.{Order}
 use Rattle.sheets.specs.declared.Row.{Row}
-use Rattle.sheets.specs.Sheet.{headingOf}
+use Rattle.sheets.specs.Sheet.{headingOf, shortSheet}
 use Rattle.sheets.specs.Written.{Whole}
 use Rattle.moves.specs.declared.State.{State}
 use Rattle.retiming.specs.declared.Walked.{Walked}
 use Rattle.retiming.specs.Walk.{Walk, refused, reached, arrivalOf}
-use Rattle.retiming.specs.Retiming.{movesOn, timing, sheetTests, shortSheet, falseHeader, pick, retimedTo, retimingReply, retimedSheet}
+use Rattle.retiming.specs.Retiming.{movesOn, timing, sheetTests, falseHeader, retimedTo, retimingReply, retimedSheet}
 
 abbrev pub pickWalk : Bool → Walk → Walk → Walk
 pickWalk true a b = a
@@ -60,7 +62,7 @@ rowsReached (reached s rows) = rows
 -- retiming's reply, once a run is opened
 abbrev pub retimedRun : List ℕ → Order → List ℕ → List ℕ → Reply
 retimedRun map order sheet before =
-    firstOf (sheetTests order sheet (timing false map order sheet) ++ ((14 at shortSheet (movesOn sheet) before) ∷ []))
+    firstOf (sheetTests order sheet (timing false map order sheet) ++ ((14 at shortSheet (movesOn sheet) (length before)) ∷ []))
     (succeeded (movesOn sheet) (arrivalOf (timing false map order sheet)))
 
 -- the answer and the other sheet afterwards, once a run is opened

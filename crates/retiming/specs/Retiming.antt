@@ -3,11 +3,12 @@ use mathlib.Core.Bool.{Bool, true, false, not, _||_}
 use mathlib.Core.List.{List, [], _∷_, _++_}
 use mathlib.Core.Option.{Option, none}
 use Prim.Native.Nat.{ℕ, _+_}
-use lib.Dec.{eqb, ltb}
+use lib.Dec.{eqb}
 use lib.ListN.{length}
 use Rattle.replies.specs.declared.Reply.{Reply}
 use Rattle.replies.specs.First.{Test, _at_, firstOf, placed}
 use Rattle.replies.specs.Told.{succeeded}
+use Rattle.replies.specs.Pick.{pick}
 use Rattle.driving.specs.declared.Order.{Order}
 use Rattle.driving.specs.Order.{orderOf}
 use Rattle.moves.specs.declared.State.{State}
@@ -15,7 +16,7 @@ use Rattle.moves.specs.Trip.{tripOf}
 use Rattle.moves.specs.Moves.{startOf}
 use Rattle.moves.specs.Opened.{runTests}
 use Rattle.sheets.specs.declared.Heading.{Heading}
-use Rattle.sheets.specs.Sheet.{headingOf, rowsOf, sheetNeeded, sheetAfter, tornSheet}
+use Rattle.sheets.specs.Sheet.{headingOf, rowsOf, sheetAfter, shortSheet, tornSheet}
 use Rattle.retiming.specs.Walk.{Walk, refused, reached, walk, moveTest, stray, arrivalOf}
 
 abbrev pub movesOn : List ℕ → ℕ
@@ -26,10 +27,6 @@ unfoldable pub timing : Bool → List ℕ → Order → List ℕ → Walk
 timing clocks map order sheet =
     walk clocks (tripOf map order) 1 (startOf order) (rowsOf sheet 1 (movesOn sheet))
 
--- 14 short sheet: under 20 + 12M; bytes needed
-abbrev pub shortSheet : ℕ → List ℕ → Option ℕ
-shortSheet moves out = placed (ltb (length out) (sheetNeeded moves)) (sheetNeeded moves)
-
 -- 15, then 16 and 17 move by move (with 18, where clocks are compared), 19
 abbrev pub sheetTests : Order → List ℕ → Walk → List Test
 sheetTests order sheet timed =
@@ -39,7 +36,7 @@ sheetTests order sheet timed =
 abbrev pub retimingTests : List ℕ → List ℕ → List ℕ → List ℕ → Walk → List Test
 retimingTests map order sheet out timed =
     runTests map order
-    ++ (sheetTests (orderOf order) sheet timed ++ ((14 at shortSheet (movesOn sheet) out) ∷ []))
+    ++ (sheetTests (orderOf order) sheet timed ++ ((14 at shortSheet (movesOn sheet) (length out)) ∷ []))
 
 abbrev pub retimingReply : List ℕ → List ℕ → List ℕ → List ℕ → Reply
 retimingReply map order sheet out =
@@ -60,10 +57,6 @@ retimedTo heading (reached s rows) out =
     })
     rows
     out
-
-abbrev pub pick : Bool → List ℕ → List ℕ → List ℕ
-pick true a b = a
-pick false a b = b
 
 -- the other sheet afterwards: a refusal leaves it
 abbrev pub retimedSheet : List ℕ → List ℕ → List ℕ → List ℕ → List ℕ

@@ -1,4 +1,4 @@
--- The plan sheet: its format, what is read from it and what is written to it, and refusal 15.
+-- The plan sheet: its format, what is read from it and what is written to it, and refusals 14 and 15.
 -- Document 01, "Plan sheet" and "Replies". Assumes nothing.
 use mathlib.Core.Bool.{Bool, not, _||_}
 use mathlib.Core.List.{List, [], _∷_, _++_}
@@ -74,6 +74,10 @@ withRowBehind part k row = take (12 * (k - 1)) part ++ rowBytes row ++ drop (12 
 -- the sheet with record k alone written
 abbrev pub withRow : List ℕ → ℕ → Row → List ℕ
 withRow sheet k row = take (20 + 12 * (k - 1)) sheet ++ rowBytes row ++ drop (20 + 12 * k) sheet
+
+-- 14 short sheet: under 20 + 12M; bytes needed
+abbrev pub shortSheet : ℕ → ℕ → Option ℕ
+shortSheet moves length = placed (ltb length (sheetNeeded moves)) (sheetNeeded moves)
 
 -- 15 torn sheet: under 20, M above 999,999, or not 20 + 12M; length
 unfoldable pub torn : List ℕ → Bool

@@ -15,12 +15,12 @@ use Rattle.replies.specs.declared.Reply.{Reply}
 use Rattle.replies.specs.declared.Timing.{Timing}
 use Rattle.replies.specs.First.{firstOf}
 use Rattle.replies.specs.Told.{succeeded, toldCheck, toldPlan, toldRefusal, toldTiming}
+use Rattle.replies.specs.Pick.{pick}
 use Rattle.replies.proofs.First.{refusal-number}
 use Rattle.roadmap.specs.Format.{nameLength}
 use Rattle.mapcheck.specs.MapCheck.{mapTests}
 use Rattle.mapedit.specs.Name.{nameReply, nameAt, namePart}
 use Rattle.mapedit.specs.Chaining.{ChainMaking}
-use Rattle.mapedit.specs.Pick.{pick}
 use Rattle.mapedit.proofs.Named.{length-named}
 use Rattle.retiming.specs.Retiming.{auditReply}
 use Rattle.retiming.specs.Parts.{Retimed}

@@ -10,11 +10,11 @@ use Rattle.replies.specs.declared.Planning.{Planning}
 use Rattle.replies.specs.declared.Timing.{Timing}
 use Rattle.replies.specs.First.{firstOf}
 use Rattle.replies.specs.Told.{succeeded, toldCheck, toldPlan, toldTiming}
+use Rattle.replies.specs.Pick.{pick}
 use Rattle.roadmap.specs.Format.{nameLength}
 use Rattle.mapcheck.specs.MapCheck.{mapTests}
 use Rattle.mapedit.specs.Name.{nameReply, nameAt}
 use Rattle.mapedit.specs.Chaining.{ChainMaking}
-use Rattle.mapedit.specs.Pick.{pick}
 use Rattle.retiming.specs.Retiming.{auditReply}
 use Rattle.retiming.specs.Parts.{Retimed}
 use Rattle.planner.specs.Planned.{Planned}
