@@ -1,5 +1,5 @@
 -- What a cursor's move leads to, by its kind. Assumes nothing.
-use mathlib.Core.Path.{_≡_, _∙_, refl, sym, ap}
+use mathlib.Core.Path.{_≡_, _∙_, sym, ap}
 use mathlib.Core.Bool.{Bool, true, false}
 use mathlib.Core.List.{List}
 use Prim.Native.Nat.{ℕ, _+_, _≤_, _<_}
@@ -8,7 +8,7 @@ use borrow.Author.Tests.{eq-eqb, ne-eqb, le-leb, lt-leb}
 use Rattle.roadmap.specs.Format.{roadCount}
 use Rattle.driving.specs.declared.Order.{Order}
 use Rattle.moves.specs.declared.State.{State}
-use Rattle.moves.specs.Trip.{stretchOf, tripOf, roadsIn}
+use Rattle.moves.specs.Trip.{stretchOf, tripOf}
 use Rattle.moves.specs.Moves.{move, pauseMove, driven, afterBreak, afterRest, paused, after}
 use Rattle.moves.proofs.Trips.{roads-in, order-in, road-in}
 use Rattle.candidates.specs.Candidates.{moveAt, resultAt}

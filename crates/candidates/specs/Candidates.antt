@@ -1,15 +1,13 @@
 -- A label's candidate: the successor that its cursor names. Assumes nothing.
 use mathlib.Core.Path.{_≡_}
-use mathlib.Core.Bool.{Bool, true, false, not}
-use mathlib.Core.List.{List, [], _∷_, map}
-use mathlib.Core.Option.{Option, none, some}
-use Prim.Native.Nat.{ℕ, zero, suc, _+_, _*_, _≤_}
+use mathlib.Core.Bool.{Bool, true, false}
+use mathlib.Core.List.{List, map}
+use Prim.Native.Nat.{ℕ, _+_, _*_, _≤_}
 use lib.Dec.{leb, eqb}
 use Rattle.moves.specs.declared.State.{State}
 use Rattle.moves.specs.declared.Move.{Move}
 use Rattle.moves.specs.Trip.{Trip, roadsIn}
 use Rattle.moves.specs.Moves.{move, pauseMove, offers, after, legal}
-use Rattle.journeys.specs.Ranked.{ranksNoHigher}
 use Rattle.labels.specs.declared.Label.{Label}
 use Rattle.labels.specs.LabelWords.{settled}
 
@@ -43,11 +41,6 @@ moveAt trip s cursor = moveKind (leb cursor (roadsIn trip)) trip s cursor
 
 abbrev pub resultAt : Trip → State → ℕ → State
 resultAt trip s cursor = after trip s (moveAt trip s cursor)
-
--- the candidate: none where the cursor is 0
-abbrev pub candidateAt : Trip → State → ℕ → Option State
-candidateAt trip s zero = none
-candidateAt trip s (suc k) = some (resultAt trip s (suc k))
 
 -- a cursor that names a legal move
 pub record Names (trip : Trip) (s : State) (cursor : ℕ) : Type 0 where

@@ -1,6 +1,6 @@
 // The candidates of settled labels: what a cursor names, how two states rank, and which candidate is next.
 ghost use mathlib.Core.Path.{_≡_};
-ghost use Prim.Native.Nat.{_+_, _≤_, _<_};
+ghost use Prim.Native.Nat.{_+_, _<_};
 ghost use lib.ListN.{length};
 ghost use Rattle.roadmap.specs.Format.{junctionCount, roadCount};
 ghost use Rattle.moves.specs.Runs.{Accepted, InRange, tripIn};

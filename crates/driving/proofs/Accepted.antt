@@ -1,5 +1,5 @@
 -- An order passes exactly when its length is 40 and its words keep the rules; the facts that later layers use. Assumes nothing.
-use mathlib.Core.Path.{_≡_, refl, subst}
+use mathlib.Core.Path.{_≡_, refl}
 use mathlib.Core.Bool.{true, false}
 use mathlib.Core.List.{List, [], _∷_, _++_}
 use mathlib.Core.Logic.{⊎-elim}
@@ -9,10 +9,8 @@ use native.Mathlib.Omega.{arith}
 use lib.Dec.{lit≤, eqb}
 use lib.ListN.{length}
 use borrow.Author.Tests.{le-leb, leb-true, eq-eqb, eqb-true}
-use Rattle.replies.specs.declared.Check.{Check}
-use Rattle.replies.specs.Told.{succeeded, toldCheck}
-use Rattle.replies.specs.First.{firstOf, NoneFits, Tried}
-use Rattle.replies.proofs.First.{cases, Numbered, tried}
+use Rattle.replies.specs.First.{NoneFits}
+use Rattle.replies.proofs.First.{cases, Numbered}
 use Rattle.driving.specs.declared.Order.{Order}
 use Rattle.driving.specs.declared.Figures.{Figures}
 use Rattle.driving.specs.declared.Rules.{Rules}
@@ -121,9 +119,3 @@ order-accepted junctions bytes passed = order-sound junctions (orderOf bytes) (p
 pub accepted-passes : (junctions : ℕ) (bytes : List ℕ) → length bytes ≡ 40 → AcceptedOrder junctions (orderOf bytes) → NoneFits (orderTests junctions bytes)
 accepted-passes junctions bytes long s =
     (simp (eq-eqb (length bytes) 40 long), (sound-rules-pass (orderOf bytes .rules) (s .sound-rules), (sound-trip-passes junctions (orderOf bytes) s, tt)))
-
--- what a caller knows where the order check has passed
-pub checked-order : (junctions : ℕ) (bytes : List ℕ) (r : Check) → r ≡ Check.Passed → toldCheck r ≡ firstOf (orderTests junctions bytes) (succeeded 0 0) → (length bytes ≡ 40) × AcceptedOrder junctions (orderOf bytes)
-checked-order junctions bytes r passed told =
-    let none-fits = subst (Tried (orderTests junctions bytes)) passed (tried (orderTests junctions bytes) r (order-numbered junctions bytes) told) in
-    (order-length bytes (none-fits .0), order-accepted junctions bytes none-fits)

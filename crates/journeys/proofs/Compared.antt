@@ -1,10 +1,9 @@
 -- Two runs compared: where B eases A, A's journey timed under B is legal and arrives no later, and B's answer is no later than that.
 -- Assumes nothing.
-use mathlib.Core.Path.{_≡_, sym, subst}
-use mathlib.Core.Bool.{true}
+use mathlib.Core.Path.{_≡_}
 use mathlib.Core.List.{List}
-use mathlib.Core.Option.{Option, some}
-use Prim.Native.Nat.{ℕ, _≤_}
+use mathlib.Core.Option.{some}
+use Prim.Native.Nat.{_≤_}
 use native.Mathlib.Omega.{arith}
 use lib.Dec.{T}
 use Rattle.moves.specs.declared.State.{State}
@@ -12,7 +11,7 @@ use Rattle.moves.specs.declared.Move.{Move}
 use Rattle.moves.specs.Trip.{Trip}
 use Rattle.moves.specs.Compared.{Slack, Eases}
 use Rattle.moves.proofs.Rising.{SoundTrip}
-use Rattle.journeys.specs.Journeys.{startIn, atTarget, Journey, timed}
+use Rattle.journeys.specs.Journeys.{startIn, atTarget, Journey}
 use Rattle.journeys.specs.Ranked.{ranksNoHigher}
 use Rattle.journeys.specs.Labels.{answerIn}
 use Rattle.journeys.specs.Plan.{planMoves}

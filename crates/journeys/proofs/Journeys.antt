@@ -2,27 +2,26 @@
 use mathlib.Core.Path.{_≡_, refl, sym, ap, subst, _∙_}
 use mathlib.Core.Bool.{Bool, true, false, _&&_}
 use mathlib.Core.List.{List, [], _∷_, _++_, List·Memᴰ, List·Memᴰ·cases-cons, List·Memᴰ·head, List·Memᴰ·tail, List·Memᴰ·not-nil}
-use mathlib.Core.Logic.{_⊎_, inl, inr, ⊎-elim}
-use mathlib.Core.Option.{Option, none, some}
+use mathlib.Core.Logic.{_⊎_, ⊎-elim}
+use mathlib.Core.Option.{some}
 use Prim.Native.Nat.{ℕ, _+_}
 use native.Mathlib.Omega.{arith}
 use lib.Dec.{T}
-use Rattle.replies.proofs.First.{cases, not-both}
+use Rattle.replies.proofs.First.{cases}
 use Rattle.moves.specs.declared.State.{State}
 use Rattle.moves.specs.declared.Move.{Move}
 use Rattle.moves.specs.declared.Step.{Step}
 use Rattle.moves.specs.Trip.{Trip, junctionsIn}
-use Rattle.moves.specs.Moves.{offers, offered, after, legal, moveSeconds, judged, stepped}
+use Rattle.moves.specs.Moves.{offers, offered, after, legal, judged, stepped}
 use Rattle.moves.specs.Compared.{Slack, Eases}
 use Rattle.moves.proofs.Stepped.{and-true}
 use Rattle.moves.proofs.Offered.{offered-in, offered-from}
 use Rattle.moves.specs.Runs.{InRange}
 use Rattle.moves.proofs.Rising.{SoundTrip, clock-after, range-after, start-range}
 use Rattle.moves.proofs.Monotone.{eased-move}
-use Rattle.theory.specs.Lists.{keep}
 use Rattle.theory.specs.States.{Reach, start, step}
 use Rattle.theory.proofs.Lists.{keep-from, keep-head, keep-tail}
-use Rattle.journeys.specs.Journeys.{startIn, Leads, stay, go, Reached, timed, totalSeconds, results, succs}
+use Rattle.journeys.specs.Journeys.{Leads, stay, go, Reached, timed, totalSeconds, results, succs}
 
 -- a test that passes, both ways
 pub T-true : {b : Bool} → T b → b ≡ true

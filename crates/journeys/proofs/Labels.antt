@@ -1,13 +1,12 @@
 -- What the definitions mean, in terms of journeys: reachable states, dominance, the answer and the labels. Assumes nothing.
-use mathlib.Core.Path.{_≡_, refl, sym, ap, subst, _∙_}
-use mathlib.Core.Bool.{Bool, true, false, not}
-use mathlib.Core.List.{List, [], _∷_, List·Memᴰ, List·Memᴰ·head, List·Memᴰ·not-nil, List·Memᴰ·eq-of-singleton, Memᴰ·cast}
-use mathlib.Core.Logic.{_⊎_, inl, inr, _↔_}
+use mathlib.Core.Path.{_≡_, refl, sym, subst}
+use mathlib.Core.Bool.{true}
+use mathlib.Core.List.{List, [], _∷_, List·Memᴰ, List·Memᴰ·head, List·Memᴰ·not-nil, List·Memᴰ·eq-of-singleton}
+use mathlib.Core.Logic.{_⊎_, _↔_}
 use mathlib.Core.Option.{Option, none, some}
-use Prim.Native.Nat.{ℕ, _≤_, _<_}
-use native.Mathlib.Omega.{arith}
+use Prim.Native.Nat.{_≤_, _<_}
 use lib.Dec.{T}
-use lib.ListN.{length, getD}
+use lib.ListN.{getD}
 use borrow.Author.Tests.{eq-eqb}
 use Rattle.moves.specs.declared.State.{State}
 use Rattle.moves.specs.declared.Move.{Move}
@@ -19,7 +18,7 @@ use Rattle.theory.specs.Labels.{within, IsAnswer}
 use Rattle.theory.proofs.Sorting.{le-self}
 use Rattle.theory.proofs.Dominance.{above-start, start-undominated, equal-or-dominated, undominated-parent}
 use Rattle.theory.proofs.Labels.{answer-is, answer-unique, answer-undominated, labels-exactly, labels-strict, labels-unique, labels-some, first-label, answer-label}
-use Rattle.journeys.specs.Journeys.{startIn, atTarget, Leads, Journey, Reached, succs}
+use Rattle.journeys.specs.Journeys.{startIn, atTarget, Journey, Reached, succs}
 use Rattle.journeys.specs.Ranked.{sameState, covers, dominatesState, ranksNoHigher, UndominatedIn}
 use Rattle.journeys.specs.Labels.{reachableIn, answerIn, labelsIn, labelCount}
 use Rattle.journeys.proofs.Ranked.{rank-order, rank-clock, same-decides}

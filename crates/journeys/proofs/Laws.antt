@@ -1,21 +1,19 @@
 -- The laws that a search rests on hold of the moves of a sound run. Assumes nothing.
-use mathlib.Core.Path.{_≡_, refl, sym, subst}
-use mathlib.Core.List.{List, List·Memᴰ}
-use Prim.Native.Nat.{ℕ, _+_, _≤_}
+use mathlib.Core.Path.{refl, sym, subst}
+use mathlib.Core.List.{List·Memᴰ}
 use native.Mathlib.Omega.{arith}
-use lib.Dec.{T, eqb}
-use Rattle.driving.specs.declared.Order.{Order}
+use lib.Dec.{T}
 use Rattle.moves.specs.declared.State.{State}
 use Rattle.moves.specs.Trip.{Trip}
 use Rattle.moves.specs.Moves.{after}
-use Rattle.moves.specs.Compared.{Slack, EasesRules, Eases}
+use Rattle.moves.specs.Compared.{Eases}
 use Rattle.moves.proofs.Monotone.{eased-move, legal-facts}
 use Rattle.moves.proofs.Rising.{SoundTrip, raises}
 use Rattle.theory.specs.States.{Covered, Laws, Rises, GoalCovers}
 use Rattle.theory.specs.Reachable.{AllReached}
 use Rattle.theory.proofs.Reachable.{all-reached}
 use Rattle.journeys.specs.Journeys.{startIn, atTarget, succs}
-use Rattle.journeys.specs.Ranked.{sameState, covers, ranksNoHigher}
+use Rattle.journeys.specs.Ranked.{covers, ranksNoHigher}
 use Rattle.journeys.specs.Labels.{secondsToSpend, reachableIn}
 use Rattle.journeys.proofs.Ranked.{rank-order, lower-clock, same-decides, covers-slack, slack-covers, slack-self, slack-trans, slack-rank}
 use Rattle.journeys.proofs.Journeys.{succs-in, succs-from}

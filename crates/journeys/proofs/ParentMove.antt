@@ -1,14 +1,11 @@
 -- The parent's move: the first of the offered moves that leads there, which is the lowest by kind and then by number. Assumes nothing.
-use mathlib.Core.Path.{_≡_, refl, sym, ap, subst, _∙_}
-use mathlib.Core.Bool.{Bool, true, false, not, _&&_}
+use mathlib.Core.Path.{_≡_, refl, sym, ap, _∙_}
+use mathlib.Core.Bool.{Bool, true, false}
 use mathlib.Core.List.{List, [], _∷_, _++_, List·Memᴰ, List·Memᴰ·append-cases, List·Memᴰ·cases-cons, List·Memᴰ·head, List·Memᴰ·tail, List·Memᴰ·not-nil}
 use mathlib.Core.Logic.{_⊎_, inl, inr, ⊎-elim}
-use mathlib.Core.Option.{Option, none, some}
+use mathlib.Core.Option.{some}
 use Prim.Native.Nat.{ℕ, zero, suc, _+_, _≤_, _<_}
 use native.Mathlib.Omega.{arith}
-use native.Mathlib.Nat.{eq-or-lt-of-le}
-use borrow.Author.Tests.{leb-true, le-leb}
-use lib.Dec.{T, leb, eqb}
 use Rattle.replies.proofs.First.{cases, not-both}
 use Rattle.moves.specs.declared.State.{State}
 use Rattle.moves.specs.declared.Move.{Move}
@@ -20,7 +17,7 @@ use Rattle.journeys.specs.Journeys.{succs}
 use Rattle.journeys.specs.Ranked.{sameState}
 use Rattle.journeys.specs.Plan.{movesTo, firstTo, moveTo}
 use Rattle.journeys.proofs.Ranked.{same-decides}
-use Rattle.journeys.proofs.Journeys.{T-true, true-T, OneMove, succs-from}
+use Rattle.journeys.proofs.Journeys.{T-true, true-T, succs-from}
 
 -- m stands before n: a lower kind, or the same kind and a lower number
 pub data Before (m n : Move) : Type 0 where

@@ -1,19 +1,17 @@
 -- The plan's moves are a legal journey from the start to the answer, fewer than the labels. Assumes nothing.
 use mathlib.Core.Path.{_≡_, refl, sym, ap, subst, _∙_}
-use mathlib.Core.Bool.{Bool, true, false}
 use mathlib.Core.List.{List, [], _∷_, _++_, List·Memᴰ}
-use mathlib.Core.Logic.{_⊎_, inl, inr, ⊎-elim, _↔_}
-use mathlib.Core.Option.{Option, none, some}
+use mathlib.Core.Logic.{_⊎_, ⊎-elim}
+use mathlib.Core.Option.{Option, some}
 use Prim.Native.Nat.{ℕ, zero, suc, _+_, _≤_, _<_, zero-le, suc-le-suc}
 use native.Mathlib.Omega.{arith}
 use borrow.Author.Tests.{lt-ltb, le-ltb}
-use lib.Dec.{T, T-not, ltb}
+use lib.Dec.{T, T-not}
 use native.Mathlib.Nat.{eq-or-lt-of-le}
 use lib.ListN.{length, getD, length-append}
 use Rattle.moves.specs.declared.State.{State}
 use Rattle.moves.specs.declared.Move.{Move}
 use Rattle.moves.specs.Trip.{Trip}
-use Rattle.moves.specs.Moves.{after}
 use Rattle.moves.proofs.Rising.{SoundTrip}
 use Rattle.theory.specs.Labels.{parent, within}
 use Rattle.theory.proofs.Sorting.{strict-at}
@@ -27,8 +25,8 @@ use Rattle.journeys.specs.Plan.{moveTo, oneMove, movesBack, movesOf, pla
 use Rattle.journeys.proofs.Ranked.{rank-order, same-decides}
 use Rattle.journeys.proofs.Journeys.{leads-next, leads-clock}
 use Rattle.journeys.proofs.Laws.{laws, clock-rises, all-reachable}
-use Rattle.journeys.proofs.Labels.{reached-reach, label-exactly, labels-rise, label-first, label-some, answer-ends, answer-is-label, home-answer, home-count}
-use Rattle.journeys.proofs.ParentMove.{MoveTo, move-some}
+use Rattle.journeys.proofs.Labels.{reached-reach, label-exactly, labels-rise, label-first, answer-ends, answer-is-label, home-answer, home-count}
+use Rattle.journeys.proofs.ParentMove.{move-some}
 
 -- one step back in any list, or none
 module _ (trip : Trip) (L : List State) (t : State) where
@@ -175,11 +173,6 @@ module _ (trip : Trip) (sound : SoundTrip trip) where
     pub plan-short : moveCount trip < labelCount trip
     plan-short =
         omega (arith, ap length plan-at, moves-lead (labelCount trip) (answer-at .0) (omega (arith, answer-at .1)) (answer-at .1) .few, answer-at .1)
-
-  -- without an answer there are no moves
-  pub plan-none : answerIn trip ≡ none → planMoves trip ≡ []
-  unfolding planMoves
-  plan-none e = rw e
 
   -- source equal to target: no moves
   pub home-plan : trip .order .source ≡ trip .order .target → planMoves trip ≡ []

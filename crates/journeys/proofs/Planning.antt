@@ -1,8 +1,8 @@
 -- The reply of planning: which refusal fits when, and that accepted bytes make a sound run. Assumes nothing.
-use mathlib.Core.Path.{_≡_, refl, sym, ap, _∙_}
+use mathlib.Core.Path.{_≡_, refl, ap, _∙_}
 use mathlib.Core.Bool.{Bool, true, false}
 use mathlib.Core.List.{List, [], _∷_, _++_}
-use mathlib.Core.Logic.{_⊎_, inl, inr, ⊎-elim, _↔_}
+use mathlib.Core.Logic.{_⊎_, ⊎-elim, _↔_}
 use mathlib.Core.Option.{Option, none, some}
 use Prim.Native.Nat.{ℕ, _≤_, _<_}
 use native.Mathlib.Omega.{arith}
@@ -10,9 +10,8 @@ use borrow.Author.Tests.{ne-eqb, lt-ltb, le-ltb, ltb-true, ltb-false}
 use lib.Dec.{ltb, eqb}
 use lib.ListN.{length}
 use Rattle.replies.specs.declared.Reply.{Reply}
-use Rattle.replies.specs.declared.Refusal.{Refusal}
-use Rattle.replies.specs.Told.{succeeded, refusedAt, toldRefusal}
-use Rattle.replies.specs.First.{Test, _at_, placed, refusedOr, firstOf, NoneFits, Refuses}
+use Rattle.replies.specs.Told.{succeeded, refusedAt}
+use Rattle.replies.specs.First.{Test, _at_, refusedOr, firstOf, NoneFits}
 use Rattle.replies.proofs.First.{cases, none-fits}
 use Rattle.roadmap.specs.Format.{junctionCount}
 use Rattle.mapcheck.specs.MapCheck.{mapTests, AcceptedMap}
@@ -26,8 +25,8 @@ use Rattle.sheets.specs.Sheet.{shortSheet}
 use Rattle.journeys.specs.Journeys.{Journey}
 use Rattle.journeys.specs.Labels.{answerIn, labelCount}
 use Rattle.journeys.specs.Plan.{planMoves, moveCount, bytesNeeded, plannedSheet}
-use Rattle.journeys.specs.Planning.{labelsThatFit, isNone, full, noRoad, searchTests, arrivalOf, planned, tripFrom, planTests, searchReply, planReply, planSheetWhen, planSheet}
-use Rattle.journeys.proofs.Labels.{none-answered, some-answered}
+use Rattle.journeys.specs.Planning.{labelsThatFit, full, noRoad, searchTests, planned, tripFrom, searchReply, planReply, planSheetWhen, planSheet}
+use Rattle.journeys.proofs.Labels.{none-answered}
 use Rattle.journeys.proofs.Plan.{plan-journey, plan-short}
 
 -- Bytes.
@@ -37,19 +36,6 @@ pub accepted-sound : (map order : List ℕ) → AcceptedMap map → NoneFits (or
 accepted-sound map order mapped ordered = sound-trip map (orderOf order) mapped (order-accepted (junctionCount map) order ordered)
 
 module _ (map order : List ℕ) (fit sheet : ℕ) where
-  -- a refusal of the map
-  pub reply-refused-map : (why : Refusal) → Refuses (mapTests map) why → planReply map order fit sheet ≡ toldRefusal why
-  unfolding planReply
-  reply-refused-map why refuses =
-      refuses (orderTests (junctionCount map) order ++ searchTests (tripFrom map order) fit sheet) (planned (tripFrom map order))
-
-  -- of an accepted map, a refusal of the order
-  pub reply-refused-order : AcceptedMap map → (why : Refusal) → Refuses (orderTests (junctionCount map) order) why → planReply map order fit sheet ≡ toldRefusal why
-  unfolding planReply
-  reply-refused-order mapped why refuses =
-      none-fits (mapTests map) (orderTests (junctionCount map) order ++ searchTests (tripFrom map order) fit sheet) (planned (tripFrom map order)) mapped
-      ∙ refuses (searchTests (tripFrom map order) fit sheet) (planned (tripFrom map order))
-
   -- of both accepted, what the search says
   pub reply-accepted : AcceptedMap map → NoneFits (orderTests (junctionCount map) order) → planReply map order fit sheet ≡ searchReply (tripFrom map order) fit sheet
   unfolding planReply searchReply

@@ -1,7 +1,7 @@
 -- The rows of the plan's sheet: one for each move, in order, with the clock of the label that the move leads to. Assumes nothing.
-use mathlib.Core.Path.{_≡_, refl, sym, ap, subst, _∙_}
+use mathlib.Core.Path.{_≡_, refl, ap, _∙_}
 use mathlib.Core.List.{List, [], _∷_, _++_, map}
-use mathlib.Core.Option.{Option, none, some}
+use mathlib.Core.Option.{Option, some}
 use Prim.Native.Nat.{ℕ, suc, _+_, _≤_, _<_}
 use native.Mathlib.Omega.{arith}
 use lib.ListN.{length}
@@ -14,8 +14,8 @@ use Rattle.sheets.specs.declared.Row.{Row}
 use Rattle.journeys.specs.Journeys.{startIn, Leads, stay, go}
 use Rattle.journeys.specs.Labels.{labelCount, label, parentIn}
 use Rattle.journeys.specs.Plan.{oneMove, moveTo, planMoves, moveCount, rowsFrom, planRows}
-use Rattle.journeys.proofs.ParentMove.{MoveTo, move-some}
-use Rattle.journeys.proofs.Plan.{movesAt, moves-first, moves-next, parent-lower, parent-move, MovesLead, moves-lead}
+use Rattle.journeys.proofs.ParentMove.{move-some}
+use Rattle.journeys.proofs.Plan.{movesAt, moves-first, moves-next, parent-lower, parent-move, moves-lead}
 
 -- a row's move
 abbrev pub rowMove : Row → Move

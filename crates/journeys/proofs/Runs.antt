@@ -1,27 +1,27 @@
 -- Two runs compared by their bytes: an easier run eases the other as the laws of the moves ask. Assumes nothing.
-use mathlib.Core.Path.{_≡_, refl, sym, ap, subst, _∙_}
-use mathlib.Core.Bool.{Bool, true, false}
+use mathlib.Core.Path.{_≡_, sym, ap, _∙_}
+use mathlib.Core.Bool.{true, false}
 use mathlib.Core.List.{List}
 use mathlib.Core.Logic.{⊎-elim}
-use mathlib.Core.Option.{Option, some}
-use Prim.Native.Nat.{ℕ, zero, suc, _+_, _-_, _≤_, _<_}
+use mathlib.Core.Option.{some}
+use Prim.Native.Nat.{ℕ, zero, suc, _-_, _≤_}
 use native.Mathlib.Omega.{arith}
 use borrow.Author.Tests.{ltb-true, ltb-false, eqb-true, eq-eqb}
 use lib.Dec.{eqb, ltb}
-use lib.ListN.{length, getD, List·getD-eq-default}
+use lib.ListN.{List·getD-eq-default}
 use Rattle.replies.specs.First.{NoneFits}
 use Rattle.replies.proofs.First.{cases, not-both}
 use Rattle.roadmap.specs.Format.{junctionCount, roadCount, carPark}
 use Rattle.mapcheck.specs.MapCheck.{AcceptedMap}
 use Rattle.driving.specs.Order.{orderOf, orderTests}
 use Rattle.moves.specs.declared.State.{State}
-use Rattle.moves.specs.Trip.{Trip, Stretch, tripOf, stretchOf, roadIn, parkIn, roadsIn, junctionsIn}
-use Rattle.moves.specs.Compared.{Slack, EasesRules, Eases}
-use Rattle.moves.proofs.Trips.{roads-in, junctions-in, order-in, road-in, park-in}
+use Rattle.moves.specs.Trip.{Stretch, tripOf, stretchOf, roadIn, parkIn, roadsIn}
+use Rattle.moves.specs.Compared.{Slack, Eases}
+use Rattle.moves.proofs.Trips.{roads-in, junctions-in, road-in, park-in}
 use Rattle.journeys.specs.Journeys.{startIn}
 use Rattle.journeys.specs.Labels.{answerIn}
 use Rattle.journeys.specs.Planning.{tripFrom}
-use Rattle.journeys.specs.Compared.{SharedRoads, SharedTrip, EasierMap, EasierOrder, EasierRun}
+use Rattle.journeys.specs.Compared.{EasierRun}
 use Rattle.journeys.proofs.Planning.{accepted-sound}
 use Rattle.journeys.proofs.Compared.{EasedAnswer, eased-answer}
 

@@ -3,7 +3,7 @@
 use mathlib.Core.Bool.{Bool, true, false, _&&_}
 use mathlib.Core.List.{List, [], _∷_}
 use Prim.Native.Nat.{ℕ}
-use lib.Dec.{T, eqb}
+use lib.Dec.{T}
 use Rattle.replies.specs.declared.Reply.{Reply}
 use Rattle.replies.specs.Told.{succeeded}
 use Rattle.driving.specs.Order.{europeanRules}

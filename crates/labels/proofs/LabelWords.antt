@@ -1,14 +1,14 @@
 -- Words of the label run after a store, and the labels as a list. Assumes nothing.
-use mathlib.Core.Path.{_≡_, _∙_, refl, sym, ap, ap₂}
+use mathlib.Core.Path.{_≡_, _∙_, refl, ap, ap₂}
 use mathlib.Core.List.{List, [], _∷_, _++_, List·Memᴰ, List·Memᴰ·head, List·Memᴰ·append-cases, List·Memᴰ·eq-of-singleton, List·Memᴰ·not-nil, Memᴰ·append-left, Memᴰ·append-right}
 use mathlib.Core.Logic.{_⊎_, ⊎-elim}
 use Prim.Native.Nat.{ℕ, zero, suc, _+_, _-_, _*_, _≤_, _<_}
 use native.Mathlib.Omega.{arith}
 use native.Mathlib.Nat.{add-zero}
 use native.Mathlib.Numerals.{add-one}
-use native.Mathlib.Decide.{decLe, ℕ-discrete}
+use native.Mathlib.Decide.{decLe}
 use lib.ListN.{length, getD, set, length-set, length-append, List·getD-append}
-use lib.Seq.{getD-set-same, getD-set-other, getD-at, ext-getD}
+use lib.Seq.{getD-set-same, getD-set-other, getD-at}
 use Rattle.labels.specs.declared.Label.{Label}
 use Rattle.labels.specs.LabelWords.{stride, junctionField, clockField, spellField, shiftField, parentField, cursorField, winnerField, previousField, at, field, previousOf, labelAt, settled, column, Same, SameLabels, Added, puts}
 
@@ -134,27 +134,6 @@ unfolding column
 column-same f ws ws′ zero same = refl
 column-same f ws ws′ (suc n) same =
     ap₂ (λ (l : List ℕ) (a : ℕ). l ++ (a ∷ [])) (column-same f ws ws′ n (λ k low high. same k low (omega arith))) (same (suc n) (omega arith) (omega arith))
-
--- a store into word f of label k is one into the k-th entry of that column
-pub column-set :
-    (f : ℕ) (ws : List ℕ) (k v n : ℕ) → f < stride → 1 ≤ k → k ≤ n → stride * n ≤ length ws → column f (set ws (at k f) v) n ≡ set (column f ws n) (k - 1) v
-column-set f ws k v n small low high room =
-    ext-getD 0 _ _ (column-length f _ n ∙ sym (length-set (column f ws n) (k - 1) v ∙ column-length f ws n)) (λ i h. go i (omega (arith, column-length f (set ws (at k f) v) n)) (ℕ-discrete i (k - 1)))
-  where
-    there : (i : ℕ) (l : List ℕ) → i < n → getD (column f l n) i 0 ≡ field l (i + 1) f
-    there i l h = let e : i ≡ i + 1 - 1 = omega arith in ap (λ x. getD (column f l n) x 0) e ∙ column-at f l n (i + 1) 0 (omega arith) (omega arith)
-
-    go : (i : ℕ) → i < n → Dec (i ≡ k - 1) → getD (column f (set ws (at k f) v) n) i 0 ≡ getD (set (column f ws n) (k - 1) v) i 0
-    go i h (yes e) =
-        let is-k : i + 1 ≡ k = omega arith in
-        there i _ h
-        ∙ ap (λ x. field (set ws (at k f) v) x f) is-k
-        ∙ set-same ws k f v small low (omega arith)
-        ∙ sym (ap (λ x. getD (set (column f ws n) (k - 1) v) x 0) e ∙ getD-set-same (column f ws n) (k - 1) v 0 (omega (arith, column-length f ws n)))
-    go i h (no e) =
-        there i _ h
-        ∙ set-label ws k f v small (i + 1) f low (omega arith) (λ q. e (omega arith)) small
-        ∙ sym (getD-set-other (column f ws n) (k - 1) i v 0 e ∙ there i ws h)
 
 -- The store of a new label.
 puts-below : (ws : List ℕ) (i f : ℕ) (vs : List ℕ) (p : ℕ) → p < i + f → getD (puts ws i f vs) p 0 ≡ getD ws p 0

@@ -9,9 +9,9 @@ use native.Mathlib.Decide.{decLe, ℕ-discrete}
 use lib.ListN.{length, getD, set, length-set}
 use lib.Seq.{getD-set-same, getD-set-other}
 use Rattle.labels.specs.declared.Label.{Label}
-use Rattle.labels.specs.LabelWords.{stride, largestWord, junctionField, spellField, shiftField, parentField, winnerField, at, field, junctionOf, previousOf, labelAt, settled, Same, SameLabels, Added}
+use Rattle.labels.specs.LabelWords.{stride, largestWord, junctionField, spellField, shiftField, field, junctionOf, previousOf, labelAt, settled, Same, SameLabels, Added}
 use Rattle.labels.specs.Lists.{Covers, SomeCovers, Last, Heads, LeastAt, Leasts, Lists, Lowered}
-use Rattle.labels.proofs.LabelWords.{settled-mem, mem-settled, kept-field, kept-labels, set-labels}
+use Rattle.labels.proofs.LabelWords.{settled-mem, mem-settled, kept-field, kept-labels}
 
 -- no label: no head, and nothing lowered
 pub lists-none :
@@ -55,10 +55,6 @@ lists-same {ws} {ws′} {n} S room L = record {
   as-many-spells = L .as-many-spells;
   as-many-shifts = L .as-many-shifts;
 }
-
-pub lists-set :
-    {ws hs ss fs : List ℕ} (k f v : ℕ) {n : ℕ} → parentField ≤ f → f ≤ winnerField → Lists ws hs ss fs n → Lists (set ws (at k f) v) hs ss fs n
-lists-set {ws} k f v {n} a b L = lists-same (set-labels ws k f v n a b) (simp length-set (L .room)) L
 
 -- The walk along a junction's labels: none after k covers the label.
 pub record Past (ws : List ℕ) (n : ℕ) (label : Label) (k : ℕ) : Type 0 where

@@ -93,13 +93,6 @@ root-below (suc b) m h l = root-step m h (decLe m 1) (λ p. root-below b (m / 2)
 pub under-root : (m : ℕ) → 1 ≤ m → Under 1 m
 under-root m h = root-below m m h (le-refl m)
 
--- The better of two labels.
-pub takes-first : {key : ℕ → ℕ} {a b : ℕ} → key a ≤ key b → Better key a b a
-takes-first h = record { one = inl refl; first = le-refl _; second = h }
-
-pub takes-second : {key : ℕ → ℕ} {a b : ℕ} → key b ≤ key a → Better key a b b
-takes-second h = record { one = inr refl; first = h; second = le-refl _ }
-
 -- the better of two has what both have
 pub better-has : {key : ℕ → ℕ} {a b v : ℕ} (P : ℕ → Type 0) → Better key a b v → P a → P b → P v
 better-has P B p q = ⊎-elim (λ e. subst P (sym e) p) (λ e. subst P (sym e) q) (B .one)
@@ -169,9 +162,6 @@ rekey-entering {key} {key′} {ws} {n} {j} same E = record {
   path = λ k low u. rekey-least (λ m h. same m (omega arith)) low (E .path k low u);
   rest = rekey-but key key′ ws (n + 1) j same (E .rest);
 }
-
-pub rewin : (key : ℕ → ℕ) (ws ws′ : List ℕ) (n : ℕ) → Same winnerField ws ws′ n → Tree key ws n → Tree key ws′ n
-rewin key ws ws′ n same T k low high = rw (same k low high) (T k low high)
 
 -- the store of a winner
 pub stored : (ws : List ℕ) (n i v : ℕ) → 1 ≤ i → stride * i ≤ length ws → Stored ws (set ws (at i winnerField) v) n i v
@@ -325,8 +315,3 @@ root-least key ws n h T m a b = T 1 (omega arith) h .least m b (under-root m a)
 
 pub root-small : (key : ℕ → ℕ) (ws : List ℕ) (n : ℕ) → 1 ≤ n → Tree key ws n → winnerOf ws 1 ≤ n
 root-small key ws n h T = T 1 (omega arith) h .small
-
--- where it has no candidate, no label has one
-pub exhausted :
-    (key : ℕ → ℕ) (ws : List ℕ) (n top : ℕ) → 1 ≤ n → Tree key ws n → top ≤ key (winnerOf ws 1) → (m : ℕ) → 1 ≤ m → m ≤ n → top ≤ key m
-exhausted key ws n top h T none m a b = omega (arith, root-least key ws n h T m a b)

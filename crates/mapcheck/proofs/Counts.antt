@@ -1,19 +1,16 @@
 -- Refusals 1 to 4, one after the other, and what the counts are where none of them fits. Assumes nothing.
-use mathlib.Core.Path.{_≡_, _∙_, refl, sym, ap}
+use mathlib.Core.Path.{_≡_, refl, sym}
 use mathlib.Core.Bool.{Bool, true, false, _||_}
 use mathlib.Core.List.{List}
-use mathlib.Core.Logic.{_⊎_, ⊎-elim}
 use mathlib.Core.Option.{Option, none, some}
-use Prim.Native.Nat.{ℕ, _+_, _*_, _≤_, _<_}
+use Prim.Native.Nat.{ℕ, _≤_, _<_}
 use native.Mathlib.Omega.{arith}
 use borrow.Author.Tests.{lt-ltb, le-ltb, ltb-false, eq-eqb, ne-eqb}
-use lib.Dec.{ltb}
 use lib.ListN.{length}
 use Rattle.replies.specs.declared.Refusal.the-variants.{ShortMap, StrangeMap, Oversize, Misfit}
 use Rattle.replies.specs.First.{firstOf, placed, NoneFits, Refuses}
-use Rattle.replies.proofs.First.{cases}
 use Rattle.roadmap.specs.declared.Sizes.{Sizes}
-use Rattle.roadmap.specs.Format.{HasSizes, format, junctionCount, roadCount, nameBytes, lengthNeeded, mostJunctions, mostRoads, mostNameBytes}
+use Rattle.roadmap.specs.Format.{format, junctionCount, roadCount, nameBytes, lengthNeeded, mostJunctions, mostRoads, mostNameBytes}
 use Rattle.mapcheck.specs.MapCheck.{outside, orElse, oversizeCounts, oversize, sizeTests}
 
 pub or-false : {a b : Bool} → (a || b) ≡ false → (a ≡ false) × (b ≡ false)

@@ -15,9 +15,9 @@ use Rattle.replies.specs.First.{lowest}
 use Rattle.replies.proofs.First.{cases, not-both, lowest-some, lowest-is-none}
 use Rattle.roadmap.specs.Format.{junctionCount, roadCount, firstRoad, nextRoad, roadFrom}
 use Rattle.mapcheck.specs.Chain.{among, chain, isSome, onAnother, brokenChainAt}
-use Rattle.mapcheck.specs.Links.{Reaches, here, later, Rising, Links, Foreign, Broken, MapLinks, MapBroken}
+use Rattle.mapcheck.specs.Links.{Reaches, here, later, Links, Foreign, Broken, MapLinks, MapBroken}
 use Rattle.mapcheck.specs.Due.{note, Rest, Due, MapDue}
-use Rattle.mapcheck.proofs.Reaches.{begins, reached-low, onward, Between, between, on-chain, chain-holds, chain-lacks}
+use Rattle.mapcheck.proofs.Reaches.{onward, Between, between, on-chain, chain-holds, chain-lacks}
 
 -- two numbers are the same or not
 same-or-not : (a b : ℕ) → (a ≡ b) ⊎ (a ≡ b → ⊥)
@@ -185,24 +185,6 @@ module _ (first next from : ℕ → ℕ) (J R : ℕ) where
         let e : getD due j 0 ≡ r = reached-due j l h on in
         unseen
         (omega (arith, before .above, before .noticed j l (omega arith) (omega arith) (λ same. other (cc))))
-
--- the steps of the pass over the map's bytes
-module _ (map due : List ℕ) where
-  -- before the first chain is begun nothing is due
-  pub map-due-none : MapDue map due 1 1 (roadCount map + 1)
-  map-due-none = due-none (firstRoad map) (nextRoad map) (roadFrom map) (junctionCount map) (roadCount map) due
-
-  -- the chain of the next junction is begun
-  pub map-due-first : (b D : ℕ) → MapLinks map → MapDue map due b 1 D → 1 ≤ b → b ≤ junctionCount map → b < length due
-      → MapDue map (set due b (firstRoad map b)) (b + 1) 1 (note (roadFrom map) b (firstRoad map b) D)
-  map-due-first b D = due-first (firstRoad map) (nextRoad map) (roadFrom map) (junctionCount map) (roadCount map) due b D
-
-  -- a road that is due on its own chain, and noticed on no other, is passed
-  pub map-due-next : (r D : ℕ) → MapLinks map → MapDue map due (junctionCount map + 1) r D → 1 ≤ r → r ≤ roadCount map
-      → junctionCount map < length due → (r ≡ D → ⊥) → getD due (roadFrom map r) 0 ≡ r
-      → MapDue map (set due (roadFrom map r) (nextRoad map r)) (junctionCount map + 1) (r + 1)
-      (note (roadFrom map) (roadFrom map r) (nextRoad map r) D)
-  map-due-next r D = due-next (firstRoad map) (nextRoad map) (roadFrom map) (junctionCount map) (roadCount map) due r D
 
 -- either of two tests
 or-right : (b : Bool) {c : Bool} → c ≡ true → (b || c) ≡ true

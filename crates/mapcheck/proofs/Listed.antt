@@ -9,11 +9,11 @@ use native.Mathlib.Omega.{arith}
 use native.Mathlib.Nat.{eq-or-lt-of-le}
 use borrow.Author.Tests.{eqb-true, eqb-false}
 use lib.Dec.{eqb}
-use Rattle.replies.proofs.First.{cases, not-both, NoneBelow}
+use Rattle.replies.proofs.First.{cases, NoneBelow}
 use Rattle.roadmap.specs.Format.{junctionCount, roadCount, firstRoad, nextRoad, roadFrom}
 use Rattle.mapcheck.specs.Chain.{chainFrom, chain, brokenChainAt}
 use Rattle.mapcheck.specs.Listed.{roadsFrom, lowestFrom}
-use Rattle.mapcheck.specs.Links.{Reaches, here, later, Rising, Links, Foreign, Broken, Unbroken, MapLinks, MapBroken}
+use Rattle.mapcheck.specs.Links.{Reaches, here, later, Rising, Links, Unbroken, MapLinks}
 use Rattle.mapcheck.proofs.Reaches.{begins, reached-low, onward, through, earlier, Between, between, reached-or-not}
 use Rattle.mapcheck.proofs.Due.{told-unbroken, unbroken-told}
 

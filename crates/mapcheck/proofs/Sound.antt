@@ -1,23 +1,23 @@
 -- What refusals 5 to 7 leave where they do not fit: sound fields, sound links, and chains that list each junction's roads.
 -- Assumes nothing.
-use mathlib.Core.Path.{_≡_, refl}
-use mathlib.Core.Bool.{Bool, true, false, not, _||_, _&&_}
+use mathlib.Core.Path.{_≡_}
+use mathlib.Core.Bool.{Bool, true, false, _&&_}
 use mathlib.Core.List.{List}
 use mathlib.Core.Logic.{⊎-elim}
 use mathlib.Core.Option.{none}
 use Prim.Native.Nat.{ℕ, _+_, _≤_, _<_}
 use native.Mathlib.Omega.{arith}
-use borrow.Author.Tests.{eqb-true, eqb-false, ltb-false, leb-false, not-false}
+use borrow.Author.Tests.{eqb-true, ltb-false, leb-false}
 use lib.Dec.{eqb, leb, ltb}
 use lib.ListN.{length}
 use Rattle.replies.proofs.First.{cases, NoneBelow, lowest-is-none}
-use Rattle.roadmap.specs.Format.{junctionCount, roadCount, nameBytes, firstRoad, carPark, nameStart, nameLength, nextRoad, roadFrom, roadTo, roadMetres, roadSpeed, lengthNeeded, format}
+use Rattle.roadmap.specs.Format.{junctionCount, roadCount, nameBytes, firstRoad, carPark, nameStart, nameLength, nextRoad, roadFrom, roadTo, roadMetres, roadSpeed, lengthNeeded}
 use Rattle.roadmap.specs.RoadTime.{mostMetres, leastSpeed, mostSpeed}
-use Rattle.mapcheck.specs.Chain.{chain, brokenChainAt}
+use Rattle.mapcheck.specs.Chain.{chain}
 use Rattle.mapcheck.specs.Links.{MapLinks}
 use Rattle.mapcheck.specs.Listed.{roadsFrom}
-use Rattle.mapcheck.specs.MapCheck.{badJunctionAt, badJunction, badNext, badRoadAt, badRoad, brokenChain, oversize, misfit, AcceptedMap}
-use Rattle.mapcheck.proofs.Counts.{or-false, placed-none, Within, within, InRange, in-range}
+use Rattle.mapcheck.specs.MapCheck.{badJunctionAt, badJunction, badNext, badRoadAt, badRoad, oversize, AcceptedMap}
+use Rattle.mapcheck.proofs.Counts.{or-false, Within, within, InRange, in-range}
 use Rattle.mapcheck.proofs.Listed.{map-listed}
 use Rattle.mapcheck.proofs.Tried.{has-whole, accepted-sizes}
 

@@ -1,6 +1,6 @@
 -- A junction's outgoing roads are chained: its first road, then each road's next; zero ends the chain.
 -- Document 01, "Map". Assumes nothing.
-use Prim.Native.Nat.{ℕ, zero, suc, _≤_}
+use Prim.Native.Nat.{ℕ, zero, suc}
 use mathlib.Core.Bool.{Bool, true, false, _||_, _&&_, not}
 use mathlib.Core.List.{List, [], _∷_}
 use mathlib.Core.Option.{Option, none, some}

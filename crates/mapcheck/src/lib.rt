@@ -9,7 +9,7 @@ ghost use Rattle.roadmap.specs.Format.{HasSizes, junctionCount, roadFrom};
 ghost use Rattle.mapcheck.specs.Links.{MapLinks};
 ghost use Rattle.mapcheck.specs.Due.{note, MapDue};
 ghost use Rattle.mapcheck.specs.Found.{found, HeaderSays, lateTests, contentTests, partTests};
-ghost use Rattle.mapcheck.specs.MapCheck.{outside, oversizeCounts, mapTests, chainingTests, badLettering, badPlace, badJunctionFields, badJunction, badStretch, badNext, badRoadFields, badRoad, brokenChain, badLetterAt};
+ghost use Rattle.mapcheck.specs.MapCheck.{outside, oversizeCounts, mapTests, chainingTests, badPlace, badJunctionFields, badJunction, badStretch, badNext, badRoadFields, badRoad, brokenChain, badLetterAt};
 use replies::Check;
 use replies::Refusal;
 use roadmap::Junction;

@@ -1,7 +1,7 @@
 -- The monotonicity law: a state that is no worse stays no worse by the same move, in the same run or in an easier one.
 -- Stated for two runs and with slack, since dominance, two runs compared and margins all rest on it. Assumes nothing.
-use mathlib.Core.Path.{_≡_, _∙_, refl, sym, ap}
-use mathlib.Core.Bool.{Bool, true, false, _||_, _&&_}
+use mathlib.Core.Path.{_≡_, refl}
+use mathlib.Core.Bool.{true, false, _||_, _&&_}
 use mathlib.Core.Logic.{⊎-elim}
 use Prim.Native.Nat.{ℕ, _+_, _≤_}
 use native.Mathlib.Omega.{arith}
@@ -12,9 +12,9 @@ use Rattle.driving.specs.declared.Order.{Order}
 use Rattle.driving.specs.declared.Rules.{Rules}
 use Rattle.moves.specs.declared.State.{State}
 use Rattle.moves.specs.declared.Move.{Move}
-use Rattle.moves.specs.Trip.{Stretch, Trip, roadIn, parkIn, roadsIn}
-use Rattle.moves.specs.Moves.{leaves, pausesAt, offersPause, offers, driven, afterBreak, afterRest, paused, after, legal}
-use Rattle.moves.specs.Compared.{Slack, EasesRules, Eases}
+use Rattle.moves.specs.Trip.{Stretch, Trip, roadIn, roadsIn}
+use Rattle.moves.specs.Moves.{leaves, pausesAt, offers, driven, afterBreak, afterRest, after, legal}
+use Rattle.moves.specs.Compared.{Slack, Eases}
 use Rattle.moves.proofs.Stepped.{and-true}
 
 -- one move of each kind; a cleared figure is 0 in both

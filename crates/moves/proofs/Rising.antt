@@ -1,13 +1,13 @@
 -- Every move raises the clock by its own time, at least 1, and a legal one keeps the state in range. Assumes nothing.
-use mathlib.Core.Path.{_≡_, _∙_, refl, sym, ap}
-use mathlib.Core.Bool.{Bool, true, false, _||_, _&&_}
+use mathlib.Core.Path.{_≡_}
+use mathlib.Core.Bool.{true, false, _&&_}
 use mathlib.Core.List.{List}
 use mathlib.Core.Logic.{⊎-elim}
 use Prim.Native.Nat.{ℕ, _+_, _≤_}
 use native.Mathlib.Omega.{arith}
-use borrow.Author.Tests.{leb-true, eqb-true}
+use borrow.Author.Tests.{leb-true}
 use lib.Dec.{leb, eqb}
-use Rattle.replies.proofs.First.{cases, not-both}
+use Rattle.replies.proofs.First.{cases}
 use Rattle.roadmap.specs.Format.{junctionCount, roadCount}
 use Rattle.roadmap.proofs.RoadTime.{at-least-1}
 use Rattle.mapcheck.specs.MapCheck.{AcceptedMap}
@@ -18,7 +18,7 @@ use Rattle.moves.specs.declared.State.{State}
 use Rattle.moves.specs.declared.Move.{Move}
 use Rattle.moves.specs.declared.Run.{Run}
 use Rattle.moves.specs.Trip.{Trip, tripOf, roadIn, roadsIn, junctionsIn}
-use Rattle.moves.specs.Moves.{startOf, leaves, offers, driven, paused, after, legal, moveSeconds}
+use Rattle.moves.specs.Moves.{startOf, leaves, offers, after, legal, moveSeconds}
 use Rattle.moves.specs.Runs.{Accepted, InRange, tripIn}
 use Rattle.moves.proofs.Trips.{roads-in, junctions-in, order-in, road-in}
 use Rattle.moves.proofs.Stepped.{and-true}

@@ -1,11 +1,10 @@
 -- A move of each kind: what it is offered for and what it comes to. Assumes nothing.
-use mathlib.Core.Path.{_≡_, _∙_, refl, sym, ap}
+use mathlib.Core.Path.{_≡_, refl}
 use mathlib.Core.Bool.{Bool, true, false, _&&_}
 use mathlib.Core.List.{List}
 use Prim.Native.Nat.{ℕ, _≤_}
-use native.Mathlib.Omega.{arith}
 use borrow.Author.Tests.{eq-eqb, ne-eqb, leb-true}
-use lib.Dec.{leb, eqb}
+use lib.Dec.{leb}
 use Rattle.roadmap.specs.Format.{roadCount}
 use Rattle.replies.proofs.First.{not-both}
 use Rattle.driving.specs.declared.Order.{Order}

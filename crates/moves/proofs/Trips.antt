@@ -1,7 +1,7 @@
 -- The record of a run has the map's roads and car parks at their numbers. Assumes nothing.
 use mathlib.Core.Path.{_≡_, _∙_, refl, sym, ap}
-use mathlib.Core.Bool.{Bool, true, false}
-use mathlib.Core.List.{List, [], _∷_}
+use mathlib.Core.Bool.{false}
+use mathlib.Core.List.{List}
 use Prim.Native.Nat.{ℕ, zero, suc, _+_, _-_, _≤_, _<_}
 use native.Mathlib.Omega.{arith}
 use native.Mathlib.Nat.{add-zero}
@@ -10,7 +10,7 @@ use lib.Dec.{eqb, leb}
 use lib.ListN.{length, getD}
 use Rattle.roadmap.specs.Format.{junctionCount, roadCount, carPark, roadFrom}
 use Rattle.driving.specs.declared.Order.{Order}
-use Rattle.moves.specs.Trip.{Stretch, Trip, stretchOf, counted, tripOf, noStretch, roadIn, parkIn, roadsIn, junctionsIn}
+use Rattle.moves.specs.Trip.{stretchOf, counted, tripOf, noStretch, roadIn, parkIn, roadsIn, junctionsIn}
 use Rattle.moves.specs.declared.State.{State}
 use Rattle.moves.specs.Moves.{leaves, legal}
 

@@ -1,6 +1,6 @@
 -- Planning from the bytes: a run that is refused, and one that is opened. Assumes nothing.
 use mathlib.Core.Path.{_≡_, _∙_, refl, sym, ap, subst}
-use mathlib.Core.List.{List, _++_}
+use mathlib.Core.List.{List}
 use Prim.Native.Nat.{ℕ, _≤_}
 use native.Mathlib.Omega.{arith}
 use lib.Dec.{eqb}
@@ -9,9 +9,8 @@ use Rattle.replies.specs.declared.Refusal.{Refusal}
 use Rattle.replies.specs.declared.Reply.{Reply}
 use Rattle.replies.specs.declared.Planning.{Planning}
 use Rattle.replies.specs.Told.{toldRefusal, toldPlan}
-use Rattle.replies.specs.First.{NoneFits, Refuses, firstOf}
+use Rattle.replies.specs.First.{NoneFits, Refuses}
 use Rattle.replies.proofs.First.{none-fits, refusal-number}
-use Rattle.driving.specs.declared.Order.{Order}
 use Rattle.driving.specs.Order.{orderOf}
 use Rattle.moves.specs.declared.Run.{Run}
 use Rattle.moves.specs.Trip.{Trip, tripOf}

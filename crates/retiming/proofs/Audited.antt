@@ -1,24 +1,20 @@
 -- What retiming wrote passes the audit, and arrival less departure is the sum of road times, breaks and rests. Assumes nothing.
-use mathlib.Core.Path.{_≡_, _∙_, refl, sym, ap, subst}
-use mathlib.Core.Bool.{Bool, true, false, not, _&&_}
+use mathlib.Core.Path.{_≡_, _∙_, refl, sym, ap}
+use mathlib.Core.Bool.{Bool, true, false}
 use mathlib.Core.List.{List, [], _∷_, _++_}
-use mathlib.Core.Option.{Option, none, some}
+use mathlib.Core.Option.{none}
 use Prim.Native.Nat.{ℕ, _+_, _≤_}
 use native.Mathlib.Omega.{arith}
 use borrow.Author.Tests.{eq-eqb}
-use lib.Dec.{eqb, lit≤}
+use lib.Dec.{lit≤}
 use lib.ListN.{length, take}
-use Rattle.replies.specs.declared.Reply.{Reply}
-use Rattle.replies.specs.First.{Test, _at_, firstOf, NoneFits}
+use Rattle.replies.specs.First.{_at_, firstOf, NoneFits}
 use Rattle.replies.specs.Told.{succeeded}
-use Rattle.replies.proofs.First.{Numbered, none-fits, none-fitted, none-of-both, none-at-all}
-use Rattle.roadmap.specs.Format.{junctionCount}
-use Rattle.driving.specs.declared.Order.{Order}
+use Rattle.replies.proofs.First.{none-fitted, none-of-both, none-at-all}
 use Rattle.driving.specs.Order.{orderOf}
 use Rattle.moves.specs.declared.State.{State}
-use Rattle.moves.specs.declared.Step.the-variants.{Moved}
 use Rattle.moves.specs.Trip.{Trip, tripOf}
-use Rattle.moves.specs.Moves.{startOf, moveSeconds, stepped, after}
+use Rattle.moves.specs.Moves.{startOf, moveSeconds}
 use Rattle.moves.specs.Opened.{runTests}
 use Rattle.moves.proofs.Rising.{clock-after}
 use Rattle.sheets.specs.declared.Heading.{Heading}
@@ -27,9 +23,9 @@ use Rattle.sheets.specs.Sheet.{headingOf, rowsOf, sheetNeeded, sheetAfter, torn
 use Rattle.sheets.specs.Written.{Whole}
 use Rattle.sheets.proofs.Reading.{none-whole, length-rows-of, prefix-heading, prefix-rows, prefix-untorn}
 use Rattle.retiming.specs.Walk.{Walk, refused, reached, moveOf, trueRow, recorded, walk, moveTest, stray, arrivalOf, rowSeconds}
-use Rattle.retiming.specs.Retiming.{movesOn, timing, sheetTests, retimingTests, retimingReply, retimedTo, retimedSheet, falseFigures, falseHeader, auditTests, auditReply}
+use Rattle.retiming.specs.Retiming.{movesOn, timing, sheetTests, retimingTests, retimingReply, retimedSheet, falseFigures, falseHeader, auditTests, auditReply}
 use Rattle.retiming.proofs.Walking.{OneRow, stops, passes, one-row, walk-end, walk-moved, moved-to}
-use Rattle.retiming.proofs.Rewriting.{Cut, cut, walk-length}
+use Rattle.retiming.proofs.Rewriting.{cut, walk-length}
 use Rattle.retiming.proofs.Retimes.{retimedHeading}
 
 never-reached : {number k : ℕ} {l : State} {ys : List Row} → refused number k ≡ reached l ys → ⊥

@@ -1,19 +1,16 @@
 -- Retiming's answer and the other sheet afterwards, by where the walk ends. Assumes nothing.
 use mathlib.Core.Path.{_≡_, _∙_, refl, sym, ap, subst}
-use mathlib.Core.Bool.{true, false}
-use mathlib.Core.List.{List, [], _∷_, _++_}
-use mathlib.Core.Option.{none, some}
+use mathlib.Core.Bool.{false}
+use mathlib.Core.List.{List, [], _∷_}
 use Prim.Native.Nat.{ℕ, _+_, _*_, _≤_, _<_}
 use native.Mathlib.Omega.{arith}
 use borrow.Author.Tests.{ne-eqb, lt-ltb, le-ltb}
 use lib.ListN.{length}
-use Rattle.seconds.specs.declared.Clock.{Clock}
 use Rattle.replies.specs.declared.Refusal.{Refusal}
 use Rattle.replies.specs.declared.Refusal.the-variants.{ShortSheet}
-use Rattle.replies.specs.declared.Reply.{Reply}
 use Rattle.replies.specs.declared.Timing.{Timing}
 use Rattle.replies.specs.First.{_at_, firstOf, NoneFits, Refuses}
-use Rattle.replies.specs.Told.{succeeded, refusedAt, toldRefusal, toldTiming}
+use Rattle.replies.specs.Told.{succeeded, toldRefusal, toldTiming}
 use Rattle.replies.proofs.First.{none-fits, stops-at, passed-over, refusal-number}
 use Rattle.driving.specs.declared.Order.{Order}
 use Rattle.driving.specs.Order.{orderOf}
@@ -25,7 +22,7 @@ use Rattle.sheets.specs.Written.{rowsPut}
 use Rattle.sheets.proofs.Writing.{heading-last}
 use Rattle.sheets.proofs.Reading.{length-rows-of}
 use Rattle.retiming.specs.declared.Walked.{Walked}
-use Rattle.retiming.specs.Walk.{Walk, reached, arrivalOf}
+use Rattle.retiming.specs.Walk.{Walk, arrivalOf}
 use Rattle.retiming.specs.Retiming.{movesOn, timing, sheetTests, retimedTo, retimingReply}
 use Rattle.retiming.specs.Parts.{SheetSays, rowsReached, RetimedRun, Retimed}
 use Rattle.retiming.proofs.Judging.{arrival-reached}

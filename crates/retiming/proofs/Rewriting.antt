@@ -1,10 +1,9 @@
 -- The second pass, which writes the records with their true clocks: what is known before record k. Assumes nothing.
 use mathlib.Core.Path.{_≡_, _∙_, refl, sym, ap, subst}
-use mathlib.Core.Bool.{Bool, true, false}
+use mathlib.Core.Bool.{Bool, false}
 use mathlib.Core.List.{List, [], _∷_, _++_}
 use Prim.Native.Nat.{ℕ, zero, suc, _+_, _-_, _≤_, _<_}
 use native.Mathlib.Omega.{arith}
-use native.Mathlib.Numerals.{add-one}
 use lib.ListN.{length, take, drop, length-take}
 use lib.Seq.{length-take-le}
 use Rattle.replies.specs.declared.Refusal.{Refusal}
@@ -23,7 +22,7 @@ use Rattle.retiming.specs.declared.Walked.{Walked}
 use Rattle.retiming.specs.Walk.{Walk, refused, reached, moveOf, trueRow, recorded, walk}
 use Rattle.retiming.specs.Retiming.{movesOn, timing}
 use Rattle.retiming.specs.Parts.{WalkSays, Ends, lastReached, rowsReached}
-use Rattle.retiming.proofs.Walking.{OneRow, stops, passes, one-row, walk-end, rows-next, says-refused, HandedOn, handed-on, range-moved}
+use Rattle.retiming.proofs.Walking.{OneRow, stops, passes, one-row, walk-end, rows-next, says-refused, handed-on, range-moved}
 
 -- a walk that reached a state is that state and its records
 pub reached-is : (w : Walk) (s : State) → WalkSays w (Walked.Reached s) → w ≡ reached s (rowsReached w)

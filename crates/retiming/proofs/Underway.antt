@@ -14,7 +14,7 @@ use Rattle.moves.proofs.Rising.{start-range}
 use Rattle.sheets.specs.declared.Row.{Row}
 use Rattle.sheets.specs.Sheet.{rowAt, rowsOf}
 use Rattle.retiming.specs.declared.Walked.{Walked}
-use Rattle.retiming.specs.Walk.{Walk, reached, moveOf, walk}
+use Rattle.retiming.specs.Walk.{Walk, moveOf, walk}
 use Rattle.retiming.specs.Retiming.{movesOn, timing}
 use Rattle.retiming.specs.Parts.{WalkSays}
 use Rattle.retiming.proofs.Walking.{walk-end, rows-next, says-refused, handed-on, says-reached, range-moved}

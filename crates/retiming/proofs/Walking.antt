@@ -6,7 +6,6 @@ use Prim.Native.Nat.{ℕ, zero, suc, _+_, _-_, _≤_}
 use lib.Dec.{eqb, lit≤}
 use native.Mathlib.Omega.{arith}
 use Rattle.replies.specs.declared.Refusal.{Refusal}
-use Rattle.replies.proofs.First.{cases}
 use Rattle.moves.specs.declared.State.{State}
 use Rattle.moves.specs.declared.Move.{Move}
 use Rattle.moves.specs.declared.Step.{Step}

@@ -1,7 +1,7 @@
 -- The laws of road time: it is the least whole number of seconds that covers the quotient, at least 1 and of bounded size.
 -- Assumes nothing.
-use mathlib.Core.Path.{_≡_, _∙_, sym, ap}
-use Prim.Native.Nat.{ℕ, _+_, _*_, _-_, _≤_, _<_}
+use mathlib.Core.Path.{_≡_, _∙_, ap}
+use Prim.Native.Nat.{ℕ, _+_, _*_, _-_, _≤_}
 use native.Mathlib.Omega.{arith}
 use native.Mathlib.Nat.{lt-div-mul-add, div-lt-iff-lt-mul, le-div-iff-mul-le, add-mul, one-mul, mul-le-mul-left}
 use Rattle.roadmap.specs.RoadTime.{roadSeconds, mostMetres, leastSpeed}

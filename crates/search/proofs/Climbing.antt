@@ -1,28 +1,25 @@
 -- Each turn raises the key of the lowest-ranked candidate, so the loop ends. Assumes nothing.
 use mathlib.Core.Path.{_≡_, _∙_, sym, ap, subst, subst₂}
-use mathlib.Core.Bool.{true}
 use mathlib.Core.List.{List}
 use Prim.Native.Nat.{ℕ, _+_, _-_, _*_, _≤_, _<_}
 use native.Mathlib.Omega.{arith}
 use native.Mathlib.Decide.{decLe}
-use lib.Dec.{T}
-use lib.ListN.{length, getD, set}
+use lib.ListN.{set}
 use Rattle.moves.specs.declared.State.{State}
 use Rattle.moves.specs.declared.Run.{Run}
 use Rattle.moves.specs.Runs.{Accepted, tripIn}
-use Rattle.journeys.specs.Ranked.{ranksNoHigher}
 use Rattle.journeys.proofs.Journeys.{T-true, true-T}
 use Rattle.journeys.proofs.Ranked.{rank-order}
 use Rattle.labels.specs.LabelWords.{labelAt, cursorOf, winnerOf}
 use Rattle.candidates.specs.declared.Bound.{Bound}
-use Rattle.candidates.specs.Candidates.{stateOf, statesOf, resultAt, rankNumber}
+use Rattle.candidates.specs.Candidates.{stateOf, statesOf, rankNumber}
 use Rattle.candidates.specs.Next.{NextIs}
 use Rattle.winners.specs.Keys.{noKey, keyAt, Small}
 use Rattle.winners.specs.Mending.{Advanced, LeastKey}
 use Rattle.winners.proofs.Ranks.{rank-low, number-low}
 use Rattle.winners.proofs.Keys.{candidate, key-open, key-below, key-has, result-small}
 use Rattle.winners.proofs.Steps.{leads}
-use Rattle.settling.specs.Settling.{stateAt, candidateOf, Searching, Winner, Later}
+use Rattle.settling.specs.Settling.{candidateOf, Winner, Later}
 use Rattle.settling.proofs.Rising.{covered-later}
 use Rattle.search.specs.Underway.{cursorsOf, parentsOf, Underway, Chosen}
 use Rattle.search.proofs.Columns.{candidate-is, advanced-states, advanced-cursors}

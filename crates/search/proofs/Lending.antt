@@ -12,7 +12,6 @@ use Rattle.moves.specs.declared.State.{State}
 use Rattle.moves.specs.Trip.{Trip}
 use Rattle.moves.specs.Runs.{Accepted, tripIn}
 use Rattle.moves.proofs.Rising.{run-sound}
-use Rattle.journeys.specs.Labels.{labelCount}
 use Rattle.journeys.specs.Planning.{labelsThatFit}
 use Rattle.journeys.proofs.Labels.{label-some}
 use Rattle.labels.specs.declared.Label.{Label}

@@ -1,11 +1,10 @@
 -- A turn's parts: the label that leads, whether its candidate is at target, and what the turn comes to. Assumes nothing.
-use mathlib.Core.Path.{_≡_, _∙_, sym, ap, subst}
+use mathlib.Core.Path.{_≡_}
 use mathlib.Core.List.{List}
-use Prim.Native.Nat.{ℕ, _+_, _*_, _≤_, _<_}
+use Prim.Native.Nat.{ℕ, _+_, _≤_}
 use native.Mathlib.Omega.{arith}
 use borrow.Author.Tests.{eq-eqb}
 use lib.Dec.{T, eqb→eq}
-use lib.ListN.{length}
 use Rattle.moves.specs.declared.State.{State}
 use Rattle.moves.specs.declared.Run.{Run}
 use Rattle.moves.specs.Runs.{Accepted, tripIn}
@@ -14,15 +13,15 @@ use Rattle.theory.specs.States.{Covered}
 use Rattle.journeys.specs.Journeys.{atTarget}
 use Rattle.journeys.specs.Ranked.{covers}
 use Rattle.journeys.proofs.Journeys.{true-T}
-use Rattle.labels.specs.LabelWords.{stride, labelAt, cursorOf, winnerOf}
+use Rattle.labels.specs.LabelWords.{labelAt, cursorOf, winnerOf}
 use Rattle.labels.specs.Lists.{LabelAdded}
 use Rattle.candidates.specs.Candidates.{stateOf, labelOf, statesOf, resultAt}
-use Rattle.winners.specs.Keys.{noKey, keyAt}
+use Rattle.winners.specs.Keys.{keyAt}
 use Rattle.winners.specs.Mending.{LeastKey}
 use Rattle.winners.proofs.Keys.{key-none, key-shut}
 use Rattle.winners.proofs.Steps.{leads}
 use Rattle.search.specs.declared.Turn.{Turn}
-use Rattle.search.specs.Underway.{Underway, Chosen, Onward}
+use Rattle.search.specs.Underway.{Underway, Chosen}
 use Rattle.search.specs.Turns.{EndsWithout, EndsFound, TurnSays, goes, found, exhausted, full}
 use Rattle.search.proofs.Leading.{is-winner}
 use Rattle.search.proofs.Stopping.{ends-without, ends-found}

@@ -8,7 +8,6 @@ use Rattle.moves.specs.declared.Run.{Run}
 use Rattle.moves.specs.Runs.{Accepted, tripIn}
 use Rattle.labels.specs.LabelWords.{winnerOf}
 use Rattle.winners.specs.Keys.{noKey, keyAt}
-use Rattle.winners.specs.Mending.{LeastKey}
 use Rattle.winners.proofs.Keys.{key-top}
 use Rattle.winners.proofs.Steps.{leads}
 use Rattle.search.specs.declared.Turn.{Turn}

@@ -1,11 +1,10 @@
 -- Where the loop stops: no candidate is left, the space is full, or the target is reached. Assumes nothing.
-use mathlib.Core.Path.{_≡_, _∙_, refl, sym, ap, subst, subst₂}
+use mathlib.Core.Path.{_≡_, sym, subst, subst₂}
 use mathlib.Core.List.{List, [], _∷_, _++_, Memᴰ·of-map}
-use mathlib.Core.Option.{Option, none, some}
-use Prim.Native.Nat.{ℕ, _+_, _-_, _*_, _≤_, _<_}
+use mathlib.Core.Option.{none, some}
+use Prim.Native.Nat.{ℕ, _+_, _-_, _≤_, _<_}
 use native.Mathlib.Omega.{arith}
 use lib.Dec.{T}
-use lib.ListN.{length, getD}
 use Rattle.moves.specs.declared.State.{State}
 use Rattle.moves.specs.declared.Run.{Run}
 use Rattle.moves.specs.Runs.{Accepted, tripIn}
@@ -15,7 +14,6 @@ use Rattle.journeys.specs.Journeys.{atTarget}
 use Rattle.journeys.specs.Labels.{labelCount}
 use Rattle.journeys.specs.Ranked.{covers}
 use Rattle.journeys.proofs.Ranked.{covers-slack}
-use Rattle.labels.specs.declared.Label.{Label}
 use Rattle.labels.specs.LabelWords.{settled}
 use Rattle.labels.specs.Lists.{SomeCovers, LabelAdded}
 use Rattle.candidates.specs.Candidates.{stateOf, labelOf, statesOf}

@@ -1,12 +1,12 @@
 -- A turn of the loop, in the words: a candidate passed over, and a label settled. Assumes nothing.
-use mathlib.Core.Path.{_≡_, _∙_, refl, sym, ap, subst, subst₂}
+use mathlib.Core.Path.{_≡_, _∙_, refl, sym, subst, subst₂}
 use mathlib.Core.List.{List, [], _∷_, _++_, List·Memᴰ·head, Memᴰ·append-right}
 use Prim.Native.Nat.{ℕ, _+_, _-_, _*_, _≤_, _<_}
 use native.Mathlib.Omega.{arith}
 use native.Mathlib.Nat.{le-refl}
 use native.Mathlib.Decide.{decLe}
 use lib.Dec.{T}
-use lib.ListN.{length, getD, set}
+use lib.ListN.{length, set}
 use Rattle.roadmap.specs.Format.{junctionCount}
 use Rattle.moves.specs.declared.State.{State}
 use Rattle.moves.specs.declared.Run.{Run}
@@ -19,7 +19,7 @@ use Rattle.journeys.specs.Ranked.{covers}
 use Rattle.journeys.proofs.Laws.{laws}
 use Rattle.labels.specs.declared.Label.{Label}
 use Rattle.labels.specs.LabelWords.{stride, cursorField, at, labelAt, cursorOf, winnerOf}
-use Rattle.labels.specs.Lists.{Lists, LabelAdded}
+use Rattle.labels.specs.Lists.{LabelAdded}
 use Rattle.labels.proofs.LabelWords.{kept-field, kept-labels, same-label}
 use Rattle.labels.proofs.Lists.{lists-same}
 use Rattle.candidates.specs.declared.Bound.{Bound}
@@ -31,9 +31,9 @@ use Rattle.winners.proofs.Keys.{result-range, only-labels, key-kept}
 use Rattle.winners.proofs.Steps.{advanced-labels, key-added}
 use Rattle.settling.specs.Settling.{stateAt, candidateOf, Searching, Winner}
 use Rattle.settling.proofs.Pending.{covered-wider}
-use Rattle.settling.proofs.Turns.{turn-covered, settled, settled-winner, settled-covered}
+use Rattle.settling.proofs.Turns.{turn-covered, settled, settled-winner}
 use Rattle.search.specs.Underway.{cursorsOf, parentsOf, Underway, Chosen, Onward}
-use Rattle.search.proofs.Columns.{state-is, candidate-is, cursor-next, candidate-next, advanced-states, advanced-parents, advanced-cursors, added-states, added-cursors, added-parents}
+use Rattle.search.proofs.Columns.{state-is, candidate-is, advanced-states, advanced-parents, advanced-cursors, added-states, added-cursors, added-parents}
 
 -- what is next stays so with one more label
 pub next-wider : (trip : Trip) (L : List State) (c s : State) (bound : Bound) (v : ℕ) → NextIs trip L s bound v → NextIs trip (L ++ c ∷ []) s bound v

@@ -19,13 +19,12 @@ use Rattle.journeys.specs.Journeys.{startIn, atTarget, succs}
 use Rattle.journeys.specs.Ranked.{sameState, covers}
 use Rattle.journeys.specs.Labels.{answerIn, labelsIn, labelCount, label, parentIn}
 use Rattle.journeys.proofs.Ranked.{rank-order, same-decides}
-use Rattle.journeys.proofs.Journeys.{RangeIn, reach-leads, reached-range}
 use Rattle.journeys.proofs.Laws.{laws}
 use Rattle.journeys.proofs.Labels.{home-answer, home-labels}
 use Rattle.journeys.proofs.Endings.{SettledIn, parent-among, search-found, search-without, search-full}
 use Rattle.settling.specs.Settling.{stateAt, candidateOf, Parents, Searching, Winner, Ended}
 use Rattle.settling.proofs.Lists.{state-kept, state-new}
-use Rattle.settling.proofs.Winners.{start-in, label-in, won-reached, won-above, won-lowest, won-top, grown-lowest, grown-parents}
+use Rattle.settling.proofs.Winners.{start-in, label-in, won-above, won-lowest, won-top, grown-lowest, grown-parents}
 use Rattle.settling.proofs.Turns.{begin-parents}
 
 -- lists that are the labels and their parents, with the answer
@@ -52,10 +51,6 @@ begin-found trip sound t =
     ended trip (some (startIn trip)) (startIn trip ∷ []) (0 ∷ []) (home-answer trip sound home) (home-labels trip sound home) (begin-parents trip sound)
 
 module _ (trip : Trip) (sound : SoundTrip trip) (L : List State) (C P : List ℕ) (s : Searching trip L C P) where
-  -- each label's figures are in range
-  pub label-range : (i : ℕ) → i < length L → RangeIn trip (stateAt trip L i)
-  label-range i h = reached-range trip sound (reach-leads trip (s .tops (stateAt trip L i) (label-in trip L i h) .reach))
-
   -- no candidate is left: there is no answer, and the labels are all settled
   pub exhausted : ((i : ℕ) → i < length L → getD C i 0 ≡ 0) → Ended trip none L P
   exhausted done =
@@ -74,10 +69,6 @@ module _ (trip : Trip) (sound : SoundTrip trip) (L : List State) (C P : List ℕ
   module _ (w : ℕ) (win : Winner trip L C w) where
     abbrev won : State
     won = candidateOf trip L C w
-
-    -- so are the candidate's
-    pub won-range : RangeIn trip won
-    won-range = reached-range trip sound (reach-leads trip (won-reached trip L C P s w win))
 
     module _ (new : ¬ Covered covers L won) where
       -- the winner's candidate is not covered: there are more labels than are settled

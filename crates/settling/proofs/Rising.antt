@@ -1,27 +1,22 @@
 -- The turns rise: the least candidate after a turn, by rank and then by label number, comes after the one before it.
 -- Assumes nothing.
-use mathlib.Core.Path.{_≡_, sym, subst}
-use mathlib.Core.List.{List, [], _∷_, _++_}
+use mathlib.Core.Path.{_≡_, sym}
+use mathlib.Core.List.{List}
 use mathlib.Core.Logic.{⊎-elim}
-use Prim.Native.Nat.{ℕ, _+_, _≤_, _<_}
+use Prim.Native.Nat.{ℕ, _≤_, _<_}
 use native.Mathlib.Omega.{arith}
-use lib.Dec.{T, ltb, ltb→lt, nltb→le}
+use lib.Dec.{ltb, ltb→lt, nltb→le}
 use lib.ListN.{length, getD, set}
 use Rattle.moves.specs.declared.State.{State}
 use Rattle.moves.specs.Trip.{Trip}
-use Rattle.moves.proofs.Rising.{SoundTrip}
-use Rattle.theory.specs.States.{Covered}
 use Rattle.theory.proofs.Tests.{T-cases}
 use Rattle.theory.proofs.Sorting.{le-of-not, never-self}
-use Rattle.journeys.specs.Journeys.{atTarget}
-use Rattle.journeys.specs.Ranked.{covers}
 use Rattle.journeys.proofs.Ranked.{rank-order}
 use Rattle.candidates.specs.declared.Bound.{Bound}
 use Rattle.candidates.specs.Candidates.{resultAt}
 use Rattle.candidates.specs.Next.{NextIs}
 use Rattle.settling.specs.Settling.{stateAt, candidateOf, Searching, Winner, Later}
-use Rattle.settling.proofs.Lists.{set-elim, candidate-kept}
-use Rattle.settling.proofs.Turns.{settled, settled-winner, settled-next}
+use Rattle.settling.proofs.Lists.{set-elim}
 
 module _ (trip : Trip) (L : List State) (C P : List ℕ) (s : Searching trip L C P) (w : ℕ) (win : Winner trip L C w) where
   abbrev won : State
@@ -47,16 +42,3 @@ module _ (trip : Trip) (L : List State) (C P : List ℕ) (s : Searching trip L C
             number = λ e.
                 ⊎-elim (λ k. absurd (win .first i (ltb→lt i w k) has (sym e))) (λ k. omega (arith, nltb→le i w k, apart)) (T-cases (ltb i w));
           }
-
--- after a label was added and the winner's cursor has moved on
-pub settled-later : (trip : Trip) → SoundTrip trip → (L : List State) (C P : List ℕ) → Searching trip L C P → (w : ℕ) → Winner trip L C w
-    → (u : ℕ) → NextIs trip (L ++ candidateOf trip L C w ∷ []) (candidateOf trip L C w) Bound.Nothing u
-    → ¬ Covered covers L (candidateOf trip L C w) → ¬ T (atTarget trip (candidateOf trip L C w))
-    → (v : ℕ) → NextIs trip (L ++ candidateOf trip L C w ∷ []) (stateAt trip L w) (Bound.Above (candidateOf trip L C w)) v
-    → (w′ : ℕ) → Winner trip (L ++ candidateOf trip L C w ∷ []) (set (C ++ u ∷ []) w v) w′
-    → Later (candidateOf trip L C w) w (candidateOf trip (L ++ candidateOf trip L C w ∷ []) (set (C ++ u ∷ []) w v) w′) w′
-settled-later trip sound L C P s w win u next new out v after w′ win′ =
-    let c = candidateOf trip L C w in
-    subst (λ (z : State). Later z w (candidateOf trip (L ++ c ∷ []) (set (C ++ u ∷ []) w v) w′) w′) (candidate-kept trip L c C u (s .as-many) w (win .within))
-    (covered-later trip (L ++ c ∷ []) (C ++ u ∷ []) (P ++ (w + 1) ∷ []) (settled trip sound L C P s w win u next new out) w
-    (settled-winner trip sound L C P s w win u next) v (settled-next trip sound L C P s w win u next v after) w′ win′)

@@ -1,13 +1,12 @@
 -- The loop's invariant: it holds when the start is settled, when a label is added, and when a cursor moves on.
 -- Assumes nothing.
 use mathlib.Core.Path.{_≡_, refl, sym, subst, _∙_}
-use mathlib.Core.List.{List, [], _∷_, _++_, List·Memᴰ, List·Memᴰ·head, List·Memᴰ·not-nil, List·Memᴰ·eq-of-singleton, Memᴰ·append-right}
+use mathlib.Core.List.{List, [], _∷_, _++_, List·Memᴰ, List·Memᴰ·not-nil, List·Memᴰ·eq-of-singleton}
 use mathlib.Core.Option.{some}
 use Prim.Native.Nat.{ℕ, zero, suc, _+_, _≤_, _<_}
 use native.Mathlib.Omega.{arith}
 use lib.Dec.{T}
 use lib.ListN.{length, getD, set, length-append, length-set}
-use lib.Seq.{set-append-left}
 use Rattle.moves.specs.declared.State.{State}
 use Rattle.moves.specs.Trip.{Trip}
 use Rattle.moves.proofs.Rising.{SoundTrip}
@@ -109,18 +108,6 @@ module _ (trip : Trip) (sound : SoundTrip trip) (L : List State) (C P : List ℕ
           rw (candidate-new trip L won C u (s .as-many))
           (laws trip sound .rising won (resultAt trip won u) (candidate-in trip won u (next .names (omega (arith, cursor-new trip L won C u (s .as-many), has)))))
 
-  -- with a candidate that is covered now
-  pub settled-covered : Covered covers (L ++ won ∷ []) (candidateOf trip (L ++ won ∷ []) (C ++ u ∷ []) w)
-  settled-covered =
-      rw (candidate-kept trip L won C u (s .as-many) w (win .within)) (won, Memᴰ·append-right L (List·Memᴰ·head refl), laws trip sound .cov-refl won)
-
-  -- what is next of the winner's label and candidate is so in the longer lists
-  pub settled-next : (v : ℕ) → NextIs trip (L ++ won ∷ []) (stateAt trip L w) (Bound.Above won) v
-      → NextIs trip (L ++ won ∷ []) (stateAt trip (L ++ won ∷ []) w) (Bound.Above (candidateOf trip (L ++ won ∷ []) (C ++ u ∷ []) w)) v
-  settled-next v after =
-      subst (λ (c : State). NextIs trip (L ++ won ∷ []) (stateAt trip (L ++ won ∷ []) w) (Bound.Above c) v) (sym (candidate-kept trip L won C u (s .as-many) w (win .within)))
-      (subst (λ (l : State). NextIs trip (L ++ won ∷ []) l (Bound.Above won) v) (sym (state-kept trip L won w (win .within))) after)
-
   module _ (new : ¬ Covered covers L won) (out : ¬ T (atTarget trip won)) where
     -- the candidate is the next label, and the winner its parent
     pub settled : Searching trip (L ++ won ∷ []) (C ++ u ∷ []) (P ++ (w + 1) ∷ [])
@@ -149,15 +136,3 @@ module _ (trip : Trip) (sound : SoundTrip trip) (L : List State) (C P : List ℕ
             rw (state-new trip L won, cursor-new trip L won C u (s .as-many))
             (pending-first trip sound (L ++ won ∷ []) won u
             (snoc-elim (λ l. T (ranksNoHigher l won)) L won (won-above trip L C P s w win) (le-self rank-order won)) next)
-
-    -- and the winner's cursor may move on: the whole turn
-    pub turn-settled : (v : ℕ) → NextIs trip (L ++ won ∷ []) (stateAt trip L w) (Bound.Above won) v
-        → Searching trip (L ++ won ∷ []) (set (C ++ u ∷ []) w v) (P ++ (w + 1) ∷ [])
-    turn-settled v after =
-        turn-covered trip (L ++ won ∷ []) (C ++ u ∷ []) (P ++ (w + 1) ∷ []) settled w settled-winner v settled-covered (settled-next v after)
-
-    -- the same, with the cursor written before the label is added
-    pub turn-settled-apart : (v : ℕ) → NextIs trip (L ++ won ∷ []) (stateAt trip L w) (Bound.Above won) v
-        → Searching trip (L ++ won ∷ []) (set C w v ++ u ∷ []) (P ++ (w + 1) ∷ [])
-    turn-settled-apart v after =
-        subst (λ (c : List ℕ). Searching trip (L ++ won ∷ []) c (P ++ (w + 1) ∷ [])) (set-append-left C (u ∷ []) w v (omega (arith, s .as-many, win .within))) (turn-settled v after)

@@ -1,7 +1,6 @@
 -- What is known of the winner's candidate: it is reachable, and all that ranks below it is covered; where it is not covered it is undominated,
 -- the next in rank, and the winner is its parent. Assumes nothing.
 use mathlib.Core.Path.{_≡_, sym, ap, subst, _∙_}
-use mathlib.Core.Bool.{not}
 use mathlib.Core.List.{List, [], _∷_, _++_, List·Memᴰ, Memᴰ·append-left}
 use mathlib.Core.Option.{some}
 use Prim.Native.Nat.{ℕ, _+_, _≤_, _<_}

@@ -6,7 +6,7 @@ use mathlib.Core.Option.{Option, none, some}
 use mathlib.Core.Path.{_≡_, _∙_, refl, ap}
 use Prim.Native.Nat.{ℕ, zero, suc, _+_, _*_, _-_, _≤_, _<_, _/_, _%_}
 use native.Mathlib.Nat.{add-zero, add-assoc, add-sub-cancel-left}
-use native.Mathlib.Numerals.{add-one, one-add}
+use native.Mathlib.Numerals.{one-add}
 use native.Mathlib.Omega.{arith}
 use borrow.Author.Tests.{ltb-false, eqb-true, not-false, le-ltb, eq-eqb}
 use lib.Dec.{ltb, eqb}
@@ -80,23 +80,6 @@ unfolding rowsOf
 length-rows-of sheet k zero = refl
 length-rows-of sheet k (suc n) = ap suc (length-rows-of sheet (k + 1) n)
 
-pub rows-of-at : (sheet : List ℕ) (k n i : ℕ) (d : Row) → i < n → getD (rowsOf sheet k n) i d ≡ rowAt sheet (k + i)
-unfolding rowsOf
-rows-of-at sheet k zero i d below = absurd (omega arith)
-rows-of-at sheet k (suc n) zero d below = rw (add-zero k)
-rows-of-at sheet k (suc n) (suc i) d below =
-    rows-of-at sheet (k + 1) n i d (omega arith) ∙ rw (add-assoc k 1 i, one-add i)
-
-more : (sheet : List ℕ) (k n : ℕ) → rowsOf sheet k (suc n) ≡ rowsOf sheet k n ++ (rowAt sheet (k + n) ∷ [])
-unfolding rowsOf
-more sheet k zero = rw (add-zero k)
-more sheet k (suc n) =
-    rw (more sheet (k + 1) n) (rw (add-assoc k 1 n, one-add n))
-
--- one record more
-pub rows-of-next : (sheet : List ℕ) (k n : ℕ) → rowsOf sheet k (n + 1) ≡ rowsOf sheet k n ++ (rowAt sheet (k + n) ∷ [])
-rows-of-next sheet k n = rw (add-one n) (more sheet k n)
-
 blank : Row
 blank = record { kind = 0; number = 0; clock = 0 }
 
@@ -137,9 +120,6 @@ module _ (h : Heading) (rows : List Row) (s : List ℕ) where
 module _ (h : Heading) (rows : List Row) (s : List ℕ) where
   pub prefix-heading : headingOf (take (sheetNeeded (length rows)) (sheetAfter h rows s)) ≡ h
   prefix-heading = rw (prefix-after h rows s) (heading-back h rows [])
-
-  pub prefix-row : (k : ℕ) (d : Row) → 1 ≤ k → k ≤ length rows → rowAt (take (sheetNeeded (length rows)) (sheetAfter h rows s)) k ≡ getD rows (k - 1) d
-  prefix-row k d low high = rw (prefix-after h rows s) (row-back h rows [] k d low high)
 
   pub prefix-rows : rowsOf (take (sheetNeeded (length rows)) (sheetAfter h rows s)) 1 (length rows) ≡ rows
   prefix-rows = rw (prefix-after h rows s) (rows-back h rows [])

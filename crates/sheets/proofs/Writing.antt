@@ -1,22 +1,19 @@
 -- Records written one by one, from the front or from the back, and the header: together they are the sheet afterwards.
 -- Assumes nothing.
-use mathlib.Core.Path.{_≡_, _∙_, refl, sym}
+use mathlib.Core.Path.{_≡_, refl, sym}
 use mathlib.Core.List.{List, [], _∷_, _++_, append-assoc, append-nil}
 use Prim.Native.Nat.{ℕ, suc, _+_, _*_, _-_, _≤_, _<_}
 use native.Mathlib.Numerals.{add-one}
 use native.Mathlib.Nat.{add-zero, zero-add}
 use native.Mathlib.Omega.{arith}
-use lib.ListN.{length, take, drop, getD, length-append, length-drop, take-append-drop}
-use lib.Seq.{length-take-le, take-length, drop-length, take-suc, drop-cons}
+use lib.ListN.{length, drop, getD, length-append, length-drop, take-append-drop}
+use lib.Seq.{drop-length, drop-cons}
 use Rattle.sheets.specs.declared.Heading.{Heading}
 use Rattle.sheets.specs.declared.Row.{Row}
 use Rattle.sheets.specs.Sheet.{headingBytes, rowBytes, rowsBytes, sheetNeeded, sheetAfter, withHeading, withRow}
-use Rattle.sheets.specs.Written.{rowsPut, forward, backward}
+use Rattle.sheets.specs.Written.{rowsPut, backward}
 use Rattle.sheets.proofs.Splice.{length-splice, splice-next, splice-before}
 use Rattle.sheets.proofs.Bytes.{length-row, length-rows, length-heading}
-
-pub length-with-heading : (s : List ℕ) (h : Heading) → 20 ≤ length s → length (withHeading s h) ≡ length s
-length-with-heading s h fits = length-splice s (headingBytes h) 0 20 (rw length-heading) fits
 
 pub length-with-row : (s : List ℕ) (k : ℕ) (row : Row) → 1 ≤ k → sheetNeeded k ≤ length s → length (withRow s k row) ≡ length s
 length-with-row s k row low fits =
@@ -62,34 +59,6 @@ module _ (h : Heading) (rows : List Row) (s : List ℕ) (fits : sheetNeeded (len
       rw (zero-add (length rows))
       (splice-before s (headingBytes h) (rowsBytes rows) 0 20 (20 + 12 * length rows) (rw length-heading) (rw length-rows) fits)
 
-  -- the header before them
-  pub heading-first : rowsPut 0 rows (withHeading s h) ≡ sheetAfter h rows s
-  unfolding rowsPut sheetAfter
-  heading-first =
-      rw (zero-add (length rows))
-      (splice-next s (headingBytes h) (rowsBytes rows) 0 20 (20 + 12 * length rows) (rw length-heading) (rw length-rows) fits)
-
-pub forward-from : (rows : List Row) (k : ℕ) (s : List ℕ) → k ≤ length rows → forward rows k s ≡ rowsPut 0 (take k rows) s
-unfolding forward rowsPut
-forward-from rows k s most = rw (length-take-le k rows most, zero-add k)
-
-pub forward-start : (rows : List Row) (s : List ℕ) → forward rows 0 s ≡ s
-forward-start rows s = forward-from rows 0 s (omega arith) ∙ none-from 0 s
-
-pub length-forward : (rows : List Row) (k : ℕ) (s : List ℕ) → k ≤ length rows → sheetNeeded k ≤ length s → length (forward rows k s) ≡ length s
-length-forward rows k s most fits =
-    rw (forward-from rows k s most)
-    (length-from 0 (take k rows) s (rw (length-take-le k rows most, zero-add k) fits))
-
-pub forward-step : (rows : List Row) (k : ℕ) (s : List ℕ) (d : Row) → k < length rows → sheetNeeded (k + 1) ≤ length s → withRow (forward rows k s) (k + 1) (getD rows k d) ≡ forward rows (k + 1) s
-forward-step rows k s d more fits =
-    rw (forward-from rows k s (omega arith), forward-from rows (k + 1) s (omega arith), add-one k, take-suc rows k d more)
-    (row-behind 0 (take k rows) s (suc k) (getD rows k d) (rw (length-take-le k rows (omega arith)) (omega arith)) (omega arith))
-
-pub forward-end : (h : Heading) (rows : List Row) (s : List ℕ) → sheetNeeded (length rows) ≤ length s → withHeading (forward rows (length rows) s) h ≡ sheetAfter h rows s
-forward-end h rows s fits =
-    rw (forward-from rows (length rows) s (omega arith), take-length rows) (heading-last h rows s fits)
-
 pub backward-from : (rows : List Row) (k : ℕ) (s : List ℕ) → k ≤ length rows → backward rows k s ≡ rowsPut k (drop k rows) s
 unfolding backward rowsPut
 backward-from rows k s most =
@@ -99,10 +68,6 @@ backward-from rows k s most =
 pub backward-start : (rows : List Row) (s : List ℕ) → backward rows (length rows) s ≡ s
 backward-start rows s =
     rw (backward-from rows (length rows) s (omega arith), drop-length rows) (none-from (length rows) s)
-
-pub length-backward : (rows : List Row) (k : ℕ) (s : List ℕ) → k ≤ length rows → sheetNeeded (length rows) ≤ length s → length (backward rows k s) ≡ length s
-length-backward rows k s most fits =
-    rw (backward-from rows k s most) (length-from k (drop k rows) s (rw (length-drop k rows) (omega arith)))
 
 pub backward-step : (rows : List Row) (k : ℕ) (s : List ℕ) (d : Row) → k < length rows → sheetNeeded (length rows) ≤ length s → withRow (backward rows (k + 1) s) (k + 1) (getD rows k d) ≡ backward rows k s
 backward-step rows k s d more fits =

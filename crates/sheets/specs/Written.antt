@@ -10,10 +10,6 @@ use Rattle.sheets.specs.Sheet.{headingOf, rowsBytes, sheetNeeded, mostMo
 unfoldable pub rowsPut : ℕ → List Row → List ℕ → List ℕ
 rowsPut n rows s = take (20 + 12 * n) s ++ rowsBytes rows ++ drop (20 + 12 * (n + length rows)) s
 
--- the sheet with the first k of the records
-unfoldable pub forward : List Row → ℕ → List ℕ → List ℕ
-forward rows k s = take 20 s ++ rowsBytes (take k rows) ++ drop (20 + 12 * k) s
-
 -- the sheet with all but the first k
 unfoldable pub backward : List Row → ℕ → List ℕ → List ℕ
 backward rows k s = take (20 + 12 * k) s ++ rowsBytes (drop k rows) ++ drop (20 + 12 * length rows) s

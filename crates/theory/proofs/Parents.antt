@@ -1,9 +1,8 @@
 -- The parent of a label other than the start is a label before it, with a move to it.
 -- Assumes nothing.
-use Prim.Native.Nat.{ℕ, zero, suc, _≤_, _<_, zero-le, suc-le-suc}
-use native.Mathlib.Nat.{not-suc-le-zero}
+use Prim.Native.Nat.{ℕ, _≤_, _<_}
 use native.Mathlib.Omega.{arith}
-use mathlib.Core.Path.{_≡_, sym, ap, subst, _∙_}
+use mathlib.Core.Path.{_≡_, sym, subst, _∙_}
 use mathlib.Core.Bool.{Bool}
 use mathlib.Core.List.{List, _++_, List·Memᴰ}
 use mathlib.Core.Logic.{⊎-elim}
@@ -11,13 +10,12 @@ use mathlib.Core.Option.{Option, none, some}
 use lib.Dec.{T, ltb, ltb→lt, nltb→le}
 use lib.ListN.{length, getD}
 use Rattle.theory.specs.Lists.{Decides}
-use Rattle.theory.specs.States.{Covered, Laws, Rises}
-use Rattle.theory.specs.Settling.{below, leo}
+use Rattle.theory.specs.States.{Laws, Rises}
 use Rattle.theory.specs.Reachable.{AllReached}
 use Rattle.theory.specs.Labels.{answer, within, labels, leads, parent}
 use Rattle.theory.proofs.Tests.{T-cases}
 use Rattle.theory.proofs.Lists.{memb-mem, mem-memb, mem-at, at-mem, position-le, position-at, position-is, position-append}
-use Rattle.theory.proofs.Sorting.{never-self, strictly, strict-at, strict-before}
+use Rattle.theory.proofs.Sorting.{never-self, strict-at, strict-before}
 use Rattle.theory.proofs.Dominance.{move-above, undominated-parent}
 use Rattle.theory.proofs.Labels.{labels-exactly, labels-strict, first-label}
 
@@ -50,24 +48,6 @@ module _ {S : Type 0} (succs : S → List S) {eq : S → S → Bool} (dec : Deci
   unfolding parent
   parent-append r h = position-append (leads succs eq t) d L r h
 
--- The parent of a state that a search settles next.
-module _ {S : Type 0} {succs : S → List S} {eq le cov : S → S → Bool} (laws : Laws succs le cov) (dec : Decides eq) (d : S) where
-  -- each settled state has a candidate or none at its own index, below which what it leads to is covered; c is the least candidate and
-  -- not covered: then the first settled state whose candidate it is, is its parent
-  pub parent-next : (L : List S) (C : List (Option S)) (c : S)
-      → ((i : ℕ) → i < length L → T (leo le (some c) (getD C i none)))
-      → ((i : ℕ) (t : S) → i < length L → List·Memᴰ t (succs (getD L i d)) → T (below le (getD C i none) t) → Covered cov L t)
-      → ¬ Covered cov L c → (w : ℕ) → w < length L → List·Memᴰ c (succs (getD L w d)) → ((j : ℕ) → j < w → ¬ (getD C j none ≡ some c))
-      → parent succs eq L c ≡ w
-  parent-next L C c least closed n w h m first =
-      parent-is succs dec d L c w h m
-      (λ j k q. at (getD C j none) (least j (omega arith)) (first j k) (λ b. n (closed j c (omega arith) q b)))
-    where
-      -- c is no higher than the candidate and not below it, so it is the candidate
-      at : (o : Option S) → T (leo le (some c) o) → ¬ (o ≡ some c) → ¬ (¬ T (below le o c))
-      at none l e b = b tt
-      at (some a) l e b = b (strictly (laws .order) c a l (λ q. e (ap some (sym q))))
-
 -- The parent among the labels.
 module _ {S : Type 0} {succs : S → List S} {eq le cov : S → S → Bool} (laws : Laws succs le cov) (dec : Decides eq)
     {height : S → ℕ} {top : ℕ} (rises : Rises succs height top) {s₀ : S} {R : List S} (all : AllReached succs s₀ R) (goal : S → Bool) where
@@ -94,19 +74,3 @@ module _ {S : Type 0} {succs : S → List S} {eq le cov : S → S → Bool} (law
       let move : List·Memᴰ t (succs (getD L (j .0) d)) = subst (λ (z : S). List·Memᴰ t (succs z)) (j .2) (p .2) in
       let first : j .0 < i = strict-before (laws .order) d strict (j .0) i (j .1) (move-above laws rises (getD L (j .0) d) t move) in
       omega (arith, parent-le succs dec d L t (j .0) (j .1) move)
-
-  -- following parents ends at the start: what holds of the first index, and of an index if it holds of its parent's, holds of all
-  pub parent-induction : (d : S) (P : ℕ → Type 0) → P 0
-      → ((i : ℕ) → 0 < i → i < length (labels eq le cov goal R) → P (parent succs eq (labels eq le cov goal R) (getD (labels eq le cov goal R) i d)) → P i)
-      → (i : ℕ) → i < length (labels eq le cov goal R) → P i
-  parent-induction d P z f i h = up-to (suc i) i (omega arith) h
-    where
-      L : List S
-      L = labels eq le cov goal R
-
-      up-to : (n i : ℕ) → i < n → i < length L → P i
-      up-to zero i k h = absurd (not-suc-le-zero k)
-      up-to (suc n) zero k h = z
-      up-to (suc n) (suc i) k h =
-          let before : parent succs eq L (getD L (suc i) d) < suc i = parent-before d (suc i) (suc-le-suc zero-le) h in
-          f (suc i) (suc-le-suc zero-le) h (up-to n (parent succs eq L (getD L (suc i) d)) (omega arith) (omega arith))

@@ -1,19 +1,15 @@
 -- The key lemma of the search, and what follows from it: what is reachable below the bound is covered by what is settled.
 -- Assumes nothing.
-use Prim.Native.Nat.{ℕ, _<_}
-use mathlib.Core.Path.{sym, subst}
+use mathlib.Core.Path.{sym}
 use mathlib.Core.Bool.{Bool}
 use mathlib.Core.List.{List, List·Memᴰ, Memᴰ·cast}
-use mathlib.Core.Logic.{⊎-elim, _↔_}
+use mathlib.Core.Logic.{⊎-elim}
 use mathlib.Core.Option.{Option, none, some}
 use lib.Dec.{T, T-not, not-T}
-use lib.ListN.{length, getD}
 use Rattle.theory.specs.Lists.{Decides, StrictlySorted}
-use Rattle.theory.specs.States.{Reach, start, step, Covered, Undominated, Laws, GoalCovers}
+use Rattle.theory.specs.States.{Reach, start, step, Covered, Undominated, Laws}
 use Rattle.theory.specs.Settling.{below, leo, Settled, Lowest}
-use Rattle.theory.specs.Labels.{IsAnswer}
 use Rattle.theory.proofs.Tests.{T-cases}
-use Rattle.theory.proofs.Lists.{at-mem}
 use Rattle.theory.proofs.Dominance.{undominated-top, low-undominated}
 
 module _ {S : Type 0} {succs : S → List S} {le cov : S → S → Bool} (laws : Laws succs le cov) where
@@ -27,19 +23,6 @@ module _ {S : Type 0} {succs : S → List S} {le cov : S → S → Bool} (laws :
   below-leo b none x h k = tt
   below-leo none (some d) x h k = absurd h
   below-leo (some c) (some d) x h k = not-T (le d x) (λ q. T-not (le c x) k (laws .order .trans c d x h q))
-
-  -- each settled state has a candidate or none at its own index, below which what it leads to is covered; the bound is at most each
-  pub settled-at : (d : S) {s₀ : S} (L : List S) (C : List (Option S)) (b : Option S) → List·Memᴰ s₀ L
-      → ((i : ℕ) → i < length L → T (leo le b (getD C i none)))
-      → ((i : ℕ) (t : S) → i < length L → List·Memᴰ t (succs (getD L i d)) → T (below le (getD C i none) t) → Covered cov L t)
-      → Settled succs le cov s₀ L b
-  settled-at d L C b h least closed = record {
-    has-start = h;
-    closed = λ l t ml mt k.
-        let g = at-mem d L ml in
-        closed (g .0) t (g .1) (subst (λ (z : S). List·Memᴰ t (succs z)) (g .2) mt)
-        (below-leo b (getD C (g .0) none) t (least (g .0) (g .1)) k);
-  }
 
   -- the key lemma: a reachable state below the bound is covered by a settled state
   pub covered-below : {s₀ : S} {L : List S} {b : Option S} → Settled succs le cov s₀ L b
@@ -56,23 +39,9 @@ module _ {S : Type 0} {succs : S → List S} {le cov : S → S → Bool} (laws :
   uncovered-new L {c} n m = n (c, m, laws .cov-refl c)
 
   module _ {s₀ : S} {L : List S} where
-    -- with no candidate left, all that is reachable is covered
-    pub all-covered : Settled succs le cov s₀ L none → {t : S} → Reach succs s₀ t → Covered cov L t
-    all-covered st r = covered-below st r tt
-
     -- a reachable state that is not covered ranks no lower than the least candidate
     pub uncovered-above : {c : S} → Settled succs le cov s₀ L (some c) → {t : S} → Reach succs s₀ t → ¬ Covered cov L t → T (le c t)
     uncovered-above {c} st {t} r n = ⊎-elim (λ h. h) (λ h. absurd (n (covered-below st r h))) (T-cases (le c t))
-
-    -- where whatever covers a goal is a goal, and none is settled, no reachable goal ranks lower than the least candidate
-    pub goals-above : {goal : S → Bool} → GoalCovers cov goal → ((l : S) → List·Memᴰ l L → ¬ T (goal l))
-        → {c : S} → Settled succs le cov s₀ L (some c) → {t : S} → Reach succs s₀ t → T (goal t) → T (le c t)
-    goals-above gc out st {t} r g = uncovered-above st r (λ k. out (k .0) (k .1) (gc .up (k .0) t (k .2) g))
-
-    -- so the first goal that is settled is the lowest-ranked reachable goal
-    pub first-goal : {goal : S → Bool} → GoalCovers cov goal → ((l : S) → List·Memᴰ l L → ¬ T (goal l))
-        → {c : S} → Settled succs le cov s₀ L (some c) → Reach succs s₀ c → T (goal c) → IsAnswer succs le goal s₀ (some c)
-    first-goal gc out st r g = (r, g, λ t q h. goals-above gc out st q h)
 
 module _ {S : Type 0} {succs : S → List S} {eq le cov : S → S → Bool} (laws : Laws succs le cov) (dec : Decides eq) {s₀ : S} {L : List S} where
   -- the least candidate, if it is reachable and not covered, is undominated
@@ -91,8 +60,3 @@ module _ {S : Type 0} {succs : S → List S} {eq le cov : S → S → Bool} (law
   pub lowest-settled : {b : Option S} → Settled succs le cov s₀ L b → StrictlySorted le L
       → ((l : S) → List·Memᴰ l L → Undominated succs eq cov s₀ l) → Lowest succs eq le cov s₀ L b
   lowest-settled st s tops = record { rises = s; tops = tops; has-below = λ u d k. settled-below st (λ l m. tops l m .reach) d k }
-
-  -- with no candidate left, the settled states are exactly the undominated ones, given that they are undominated
-  pub settled-exactly : Settled succs le cov s₀ L none → ((l : S) → List·Memᴰ l L → Undominated succs eq cov s₀ l)
-      → (u : S) → Undominated succs eq cov s₀ u ↔ List·Memᴰ u L
-  settled-exactly st tops u = (λ d. settled-below st (λ l m. tops l m .reach) d tt, λ m. tops u m)

@@ -12,7 +12,7 @@ use lib.Dec.{T, T-not, not-T, ltb, ltb→lt, nltb→le}
 use lib.ListN.{length, getD}
 use Rattle.theory.specs.Lists.{Order, lower, least, IsLeast, insert, sorted, Distinct, distinct-nil, distinct-cons, StrictlySorted, sorted-nil, sorted-cons}
 use Rattle.theory.proofs.Tests.{T-cases, choose-elim}
-use Rattle.theory.proofs.Lists.{mem-elim, mem-at, at-mem}
+use Rattle.theory.proofs.Lists.{mem-elim, mem-at}
 
 module _ {S : Type 0} {le : S → S → Bool} (order : Order le) where
   -- each ranks no higher than itself
@@ -178,16 +178,6 @@ module _ {S : Type 0} {le : S → S → Bool} (order : Order le) where
     pub strict-first : {l : List S} → StrictlySorted le l → (x : S) → List·Memᴰ x l → T (le (getD l 0 d) x)
     strict-first sorted-nil x m = absurd (List·Memᴰ·not-nil m)
     strict-first (sorted-cons {x = y} h s) x m = mem-elim (λ z. T (le y z)) (le-self y) (λ q. le-of-not y x (h x q)) m
-
-    -- where each ranks above those before it, the list rises strictly
-    pub at-strict : (l : List S) → ((i j : ℕ) → i < j → j < length l → T (not (le (getD l j d) (getD l i d)))) → StrictlySorted le l
-    at-strict [] f = sorted-nil
-    at-strict (x ∷ xs) f =
-        sorted-cons
-        (λ y m.
-        let g = at-mem d xs m in
-        subst (λ (z : S). T (not (le z x))) (sym (g .2)) (f zero (suc (g .0)) (suc-le-suc zero-le) (suc-le-suc (g .1))))
-        (at-strict xs (λ i j h k. f (suc i) (suc j) (suc-le-suc h) (suc-le-suc k)))
 
     -- one that ranks below another stands before it
     pub strict-before : {l : List S} → StrictlySorted le l → (i j : ℕ) → i < length l → T (not (le (getD l j d) (getD l i d))) → i < j

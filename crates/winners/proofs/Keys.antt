@@ -113,10 +113,6 @@ module _ (map : List ℕ) (run : Run) (accepted : Accepted map run) where
       key-tie h e =
           omega (arith, ap rankNumber e, key-open (tripIn map run) ws a low-a open-a, key-open (tripIn map run) ws b low-b open-b)
 
-      pub key-other : keyAt (tripIn map run) ws a ≡ keyAt (tripIn map run) ws b → a ≡ b
-      key-other h =
-          omega (arith, key-open (tripIn map run) ws a low-a open-a, key-open (tripIn map run) ws b low-b open-b, A .small, B .small)
-
 -- What leaves the keys as they are.
 pub same-key : (trip : Trip) (ws ws′ : List ℕ) (k : ℕ) → labelAt ws′ k ≡ labelAt ws k → cursorOf ws′ k ≡ cursorOf ws k → keyAt trip ws′ k ≡ keyAt trip ws k
 unfolding keyAt

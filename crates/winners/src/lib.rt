@@ -1,6 +1,5 @@
 // The winner tree over settled labels: the label whose candidate ranks lowest, the lowest number on
 // a tie. Node k is label k, and holds the winner of its subtree.
-ghost use mathlib.Core.Path.{_≡_};
 ghost use Prim.Native.Nat.{_+_, _*_, _/_, _<_, _≤_};
 ghost use lib.ListN.{length};
 ghost use Rattle.moves.specs.Runs.{Accepted, tripIn};

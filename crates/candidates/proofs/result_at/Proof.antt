@@ -1,5 +1,5 @@
 use borrow.Author.Needs.{needs}
-use mathlib.Core.Path.{_≡_, _∙_, refl, sym, ap, subst}
+use mathlib.Core.Path.{_∙_}
 use native.Mathlib.Omega.{arith}
 use Rattle.candidates.proofs.Results.{result-drive, result-break, result-rest}
 use Rattle.candidates.proofs.result_at.Statement.{statement}

@@ -1,6 +1,6 @@
 use borrow.Author.Needs.{needs}
-use mathlib.Core.Path.{_≡_, _∙_, sym, ap, subst}
-use Rattle.replies.proofs.First.{stops-at, passed-over, none-fits}
+use mathlib.Core.Path.{_∙_, sym, ap}
+use Rattle.replies.proofs.First.{stops-at, passed-over}
 use Rattle.mapcheck.specs.Found.{found}
 use Rattle.mapcheck.proofs.check_chains.Statement.{statement}
 use Rattle.mapcheck.proofs.check_chains.Tie as tie

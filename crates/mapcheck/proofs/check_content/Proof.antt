@@ -1,6 +1,6 @@
 use borrow.Author.Needs.{needs}
-use mathlib.Core.Path.{_≡_, _∙_, sym, ap, subst}
-use mathlib.Core.Bool.{Bool, true}
+use mathlib.Core.Path.{_≡_, _∙_, sym, ap}
+use mathlib.Core.Bool.{Bool}
 use mathlib.Core.Option.{none}
 use Rattle.replies.specs.First.{firstOf}
 use Rattle.replies.specs.Told.{succeeded}

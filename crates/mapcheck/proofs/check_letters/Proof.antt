@@ -1,5 +1,5 @@
 use borrow.Author.Needs.{needs}
-use mathlib.Core.Path.{_≡_, _∙_, sym, ap, subst}
+use mathlib.Core.Path.{_∙_, sym, ap}
 use Rattle.replies.specs.First.{firstOf}
 use Rattle.replies.proofs.First.{stops-at, passed-over}
 use Rattle.mapcheck.specs.Found.{found}

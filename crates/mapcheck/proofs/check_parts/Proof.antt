@@ -1,5 +1,5 @@
 use borrow.Author.Needs.{needs}
-use mathlib.Core.Path.{_≡_, _∙_, sym, ap, subst}
+use mathlib.Core.Path.{_∙_, sym, subst}
 use Rattle.replies.specs.Told.{succeeded}
 use Rattle.replies.proofs.First.{none-fits}
 use Rattle.mapcheck.specs.MapCheck.{sizeTests}

@@ -1,6 +1,6 @@
 -- Before road r no road is broken, and what is due and noticed is as the pass has it.
-use mathlib.Core.Path.{_≡_, _∙_, refl, sym}
-use Prim.Native.Nat.{ℕ, _≤_, _+_, _-_}
+use mathlib.Core.Path.{_≡_, refl, sym}
+use Prim.Native.Nat.{_≤_, _+_, _-_}
 use native.Mathlib.Omega.{arith}
 use borrow.Author.Needs.{needs}
 use lib.ListN.{length, getD, length-set}
@@ -28,12 +28,6 @@ loop-holds c =
 -- this turn's road is one of the map's
 high : (c : tie.Then1 Inv-loop μ-loop) → c .before .before .loop .r ≤ roadCount (c .before .before .before .before .before .args .map .now)
 high c = omega arith
-
--- and so is its from-junction
-from-low : (c : tie.After-road-from Inv-loop μ-loop) → 1 ≤ c .road-from .result
-from-low c =
-    let at-loop = c .before .before .before .before in
-    rw (c .road-from .ensures) (at-loop .before .before .before .pre .1 .0 .from-low (at-loop .loop .r) (at-loop .loop .inv .0) (high (c .before .before)))
 
 from-high : (c : tie.After-road-from Inv-loop μ-loop) → c .road-from .result ≤ junctionCount (c .before .before .before .before .before .before .before .args .map .now)
 from-high c =

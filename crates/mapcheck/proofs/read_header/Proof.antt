@@ -1,12 +1,12 @@
 -- Each return is one of the laws of refusals 1 to 4.
 use mathlib.Core.Path.{_≡_, _∙_, sym, ap}
 use mathlib.Core.Option.{none}
-use Prim.Native.Nat.{ℕ, _+_, _*_, _≤_}
+use Prim.Native.Nat.{_+_, _*_}
 use native.Mathlib.Omega.{arith}
 use borrow.Author.Needs.{needs}
 use lib.ListN.{length}
 use Rattle.roadmap.specs.Format.{format, lengthNeeded}
-use Rattle.mapcheck.specs.MapCheck.{oversize, oversizeCounts}
+use Rattle.mapcheck.specs.MapCheck.{oversize}
 use Rattle.mapcheck.specs.Found.{found}
 use Rattle.mapcheck.proofs.Counts.{in-range, judged-counts, refuses-short, refuses-strange, refuses-oversize, refuses-misfit, none-of-1-to-4}
 use Rattle.mapcheck.proofs.read_header.Statement.{statement}

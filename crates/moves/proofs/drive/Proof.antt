@@ -1,6 +1,5 @@
 use borrow.Author.Needs.{needs}
-use mathlib.Core.Path.{_≡_, _∙_, sym, ap}
-use Prim.Native.Nat.{ℕ}
+use mathlib.Core.Path.{_∙_, sym}
 use Rattle.moves.proofs.Stepped.{leaves-range, drive-foreign, drive-told}
 use Rattle.moves.proofs.drive.Statement.{statement}
 use Rattle.moves.proofs.drive.Tie as tie

@@ -1,9 +1,9 @@
 use borrow.Author.Needs.{needs}
-use mathlib.Core.Path.{_≡_, _∙_, sym, ap}
+use mathlib.Core.Path.{_∙_, sym, ap}
 use Prim.Native.Nat.{ℕ}
 use native.Mathlib.Omega.{arith}
 use lib.Dec.{eqb}
-use mathlib.Core.Path.{_≡_, _∙_, sym, ap, ap₂}
+use mathlib.Core.Path.{_∙_, sym, ap}
 use Rattle.moves.proofs.Trips.{leaves-zero, leaves-beyond, leaves-road}
 use Rattle.moves.proofs.leaves_road.Statement.{statement}
 use Rattle.moves.proofs.leaves_road.Tie as tie

@@ -1,5 +1,5 @@
 use borrow.Author.Needs.{needs}
-use mathlib.Core.Path.{_≡_, _∙_, sym, ap, subst}
+use mathlib.Core.Path.{_∙_, ap, subst}
 use Prim.Native.Nat.{ℕ}
 use Rattle.replies.specs.First.{firstOf, NoneFits, Tried}
 use Rattle.replies.specs.Told.{succeeded}

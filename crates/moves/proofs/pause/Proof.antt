@@ -1,9 +1,6 @@
 use borrow.Author.Needs.{needs}
-use mathlib.Core.Path.{_≡_, _∙_, sym, ap}
-use Prim.Native.Nat.{ℕ}
+use mathlib.Core.Path.{_∙_, sym}
 use mathlib.Core.Bool.{true, false}
-use Rattle.moves.specs.Moves.{pauseMove, stepped}
-use Rattle.moves.specs.Runs.{tripIn}
 use Rattle.moves.proofs.Stepped.{pause-foreign, pause-told}
 use Rattle.moves.proofs.pause.Statement.{statement}
 use Rattle.moves.proofs.pause.Tie as tie

@@ -1,8 +1,5 @@
 use borrow.Author.Needs.{needs}
-use mathlib.Core.Path.{_≡_, _∙_, sym, ap}
-use Prim.Native.Nat.{ℕ}
 use borrow.Author.Tests.{eq-eqb, ne-eqb}
-use mathlib.Core.Path.{_≡_, _∙_, sym, ap, ap₂}
 use Rattle.moves.proofs.pauses_at.Statement.{statement}
 use Rattle.moves.proofs.pauses_at.Tie as tie
 

@@ -1,11 +1,9 @@
 use borrow.Author.Needs.{needs}
-use Prim.Native.Nat.{ℕ}
 use native.Mathlib.Omega.{arith}
-use Rattle.roadmap.specs.RoadTime.{roadSeconds, mostMetres, leastSpeed, mostSpeed}
-use Rattle.roadmap.specs.Format.{roadMetres, roadSpeed}
+use Rattle.roadmap.specs.RoadTime.{roadSeconds}
 use Rattle.roadmap.proofs.RoadTime.{at-most}
 use Rattle.mapcheck.proofs.Sound.{SoundRoad, sound-map}
-use mathlib.Core.Path.{_≡_, _∙_, sym, ap, ap₂}
+use mathlib.Core.Path.{_∙_, ap₂}
 use Rattle.moves.proofs.seconds_of.Statement.{statement}
 use Rattle.moves.proofs.seconds_of.Tie as tie
 

@@ -1,7 +1,7 @@
 use borrow.Author.Needs.{needs}
-use mathlib.Core.Path.{_≡_, _∙_, sym, ap}
+use mathlib.Core.Path.{_∙_, sym, ap}
 use Prim.Native.Nat.{ℕ}
-use Rattle.moves.specs.Moves.{move, judged, stepped}
+use Rattle.moves.specs.Moves.{move, stepped}
 use Rattle.moves.specs.Runs.{tripIn}
 use Rattle.moves.proofs.Stepped.{stepped-other}
 use Rattle.moves.proofs.take_move.Statement.{statement}

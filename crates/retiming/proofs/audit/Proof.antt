@@ -1,5 +1,5 @@
 use borrow.Author.Needs.{needs}
-use mathlib.Core.Path.{_≡_, _∙_, refl, sym, ap, subst}
+use mathlib.Core.Path.{_≡_, _∙_, sym, subst}
 use Rattle.replies.specs.Told.{toldTiming}
 use Rattle.replies.proofs.First.{none-fits}
 use Rattle.driving.specs.declared.Order.{Order}

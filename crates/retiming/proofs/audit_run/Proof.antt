@@ -1,21 +1,14 @@
 use borrow.Author.Needs.{needs}
-use mathlib.Core.Path.{_≡_, _∙_, refl, sym, ap, subst}
-use mathlib.Core.Bool.{Bool, true, false}
-use mathlib.Core.List.{[], _∷_}
+use mathlib.Core.Path.{_∙_, sym, subst}
+use mathlib.Core.Bool.{true}
 use native.Mathlib.Omega.{arith}
-use Prim.Native.Nat.{ℕ}
 use Rattle.replies.specs.First.{_at_}
-use Rattle.replies.specs.Told.{succeeded}
-use Rattle.sheets.specs.declared.Heading.{Heading}
-use Rattle.sheets.specs.Sheet.{headingOf}
 use Rattle.retiming.specs.declared.Walked.{Walked}
-use Rattle.retiming.specs.Walk.{arrivalOf}
-use Rattle.retiming.specs.Retiming.{movesOn, timing, falseFigures, falseHeader}
+use Rattle.retiming.specs.Retiming.{timing}
 use Rattle.retiming.specs.Parts.{SheetSays}
-use mathlib.Core.Bool.{true, false}
+use mathlib.Core.Bool.{true}
 use Rattle.retiming.specs.Retiming.{timing}
 use Rattle.retiming.proofs.Judging.{audited-refused, audited-false, audited-true}
-use Rattle.retiming.proofs.Judging.{arrival-reached, header-false, header-true}
 use Rattle.retiming.proofs.audit_run.Statement.{statement}
 use Rattle.retiming.proofs.audit_run.Tie as tie
 

@@ -1,4 +1,4 @@
-use mathlib.Core.Path.{_≡_, _∙_, refl, sym, ap, subst}
+use mathlib.Core.Path.{refl}
 use borrow.Author.Tests.{not-true, not-false, eq-eqb, ne-eqb}
 use Rattle.retiming.proofs.judge_clock.Statement.{statement}
 use Rattle.retiming.proofs.judge_clock.Tie as tie

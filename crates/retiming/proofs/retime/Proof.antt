@@ -1,5 +1,5 @@
 use borrow.Author.Needs.{needs}
-use mathlib.Core.Path.{_≡_, _∙_, refl, sym, ap, subst}
+use mathlib.Core.Path.{subst}
 use Rattle.moves.specs.Opened.{OpenedSays}
 use Rattle.retiming.proofs.Retimes.{retimed-unopened, retimed-opened}
 use Rattle.retiming.proofs.retime.Statement.{statement}

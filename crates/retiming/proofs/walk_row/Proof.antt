@@ -1,5 +1,5 @@
 use borrow.Author.Needs.{needs}
-use mathlib.Core.Path.{_≡_, _∙_, refl, sym, ap, subst}
+use mathlib.Core.Path.{_∙_, refl, sym}
 use mathlib.Core.List.{[]}
 use Rattle.moves.specs.Runs.{tripIn}
 use Rattle.retiming.proofs.Walking.{walk-foreign, walk-overrun, says-clock}

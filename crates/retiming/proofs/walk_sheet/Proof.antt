@@ -1,14 +1,11 @@
 -- Before record k the walk is under way.
-use mathlib.Core.Path.{_≡_, _∙_, sym, ap, subst}
-use Prim.Native.Nat.{ℕ, _≤_, _+_, _-_}
+use mathlib.Core.Path.{subst}
+use Prim.Native.Nat.{_+_, _-_}
 use native.Mathlib.Omega.{arith}
 use borrow.Author.Needs.{needs}
 use mathlib.Core.List.{[], _∷_}
-use Rattle.moves.specs.declared.State.{State}
 use Rattle.moves.specs.Runs.{tripIn}
-use Rattle.sheets.specs.declared.Row.{Row}
 use Rattle.sheets.specs.Sheet.{rowAt}
-use Rattle.retiming.specs.declared.Walked.{Walked}
 use Rattle.retiming.specs.Walk.{walk}
 use Rattle.retiming.specs.Parts.{WalkSays}
 use Rattle.retiming.proofs.Underway.{Underway, underway-start, underway-refused, underway-next, underway-end}

@@ -1,16 +1,15 @@
 -- Before record k those before it are written with their true clocks.
-use mathlib.Core.Path.{_≡_, _∙_, sym, ap, subst}
+use mathlib.Core.Path.{_≡_, subst}
 use mathlib.Core.Bool.{false}
-use mathlib.Core.List.{List, [], _∷_}
-use Prim.Native.Nat.{ℕ, _≤_, _+_, _-_}
+use mathlib.Core.List.{[], _∷_}
+use Prim.Native.Nat.{_+_, _-_}
 use native.Mathlib.Omega.{arith}
 use borrow.Author.Needs.{needs}
 use lib.ListN.{length}
 use Rattle.moves.specs.Moves.{startOf}
 use Rattle.moves.specs.Runs.{tripIn}
-use Rattle.sheets.specs.Sheet.{rowAt, withRow}
-use Rattle.retiming.specs.declared.Walked.{Walked}
-use Rattle.retiming.specs.Walk.{walk, trueRow}
+use Rattle.sheets.specs.Sheet.{rowAt}
+use Rattle.retiming.specs.Walk.{walk}
 use Rattle.retiming.specs.Retiming.{timing}
 use Rattle.retiming.specs.Parts.{WalkSays, lastReached, rowsReached}
 use Rattle.retiming.proofs.Rewriting.{ends-is, Rewriting, rewriting-start, never-refused, rewriting-next, rewriting-length, rewriting-end}

@@ -1,4 +1,4 @@
-use mathlib.Core.Path.{_≡_, _∙_, sym, ap, ap₂, subst, subst₂}
+use mathlib.Core.Path.{_∙_, sym, ap, ap₂, subst, subst₂}
 use Prim.Native.Nat.{ℕ}
 use borrow.Author.Needs.{needs}
 use Rattle.roadmap.specs.Format.{junctionCount}

@@ -1,9 +1,6 @@
 -- The labels that fit are lent, and the words after them stay.
-use mathlib.Core.Path.{_≡_, _∙_, refl, sym}
-use Prim.Native.Nat.{_<_, _≤_}
-use native.Mathlib.Omega.{arith}
+use mathlib.Core.Path.{_≡_, _∙_, sym}
 use borrow.Author.Needs.{needs}
-use Rattle.search.specs.Turns.{full}
 use Rattle.search.proofs.Lending.{none-fits, part-searched}
 use Rattle.search.proofs.search.Statement.{statement}
 use Rattle.search.proofs.search.Tie as tie

@@ -1,9 +1,7 @@
 -- One word a junction is enough for any map.
-use mathlib.Core.Path.{_≡_, _∙_, sym}
-use Prim.Native.Nat.{_<_, _≤_}
+use mathlib.Core.Path.{_≡_}
 use native.Mathlib.Omega.{arith}
 use borrow.Author.Needs.{needs}
-use Rattle.moves.specs.Runs.{tripIn}
 use Rattle.search.specs.Turns.{found}
 use Rattle.search.proofs.Beginning.{begins-home, begins-away}
 use Rattle.search.proofs.search_labels.Statement.{statement}

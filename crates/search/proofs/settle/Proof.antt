@@ -1,9 +1,7 @@
 use mathlib.Core.Path.{_≡_}
-use Prim.Native.Nat.{_+_, _*_, _<_, _≤_}
+use Prim.Native.Nat.{_+_, _≤_}
 use native.Mathlib.Omega.{arith}
-use lib.ListN.{length}
 use borrow.Author.Needs.{needs}
-use Rattle.labels.specs.LabelWords.{stride}
 use Rattle.search.specs.Turns.{goes, found, full}
 use Rattle.search.proofs.Turning.{chosen-range}
 use Rattle.search.proofs.Stopping.{more-labels}

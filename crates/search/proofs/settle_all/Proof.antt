@@ -1,13 +1,11 @@
 -- Between two turns the search is under way, with labels that fit; each turn raises the root's key.
-use mathlib.Core.Path.{_≡_, _∙_, refl, sym, subst}
-use Prim.Native.Nat.{ℕ, _+_, _-_, _*_, _≤_, _<_}
+use mathlib.Core.Path.{_∙_, refl, subst}
+use Prim.Native.Nat.{_-_}
 use native.Mathlib.Omega.{arith}
-use lib.ListN.{length}
 use borrow.Author.Needs.{needs}
 use Rattle.moves.specs.Runs.{tripIn}
-use Rattle.labels.specs.LabelWords.{stride, winnerOf}
+use Rattle.labels.specs.LabelWords.{winnerOf}
 use Rattle.winners.specs.Keys.{noKey, keyAt}
-use Rattle.search.specs.declared.Turn.{Turn}
 use Rattle.search.specs.Turns.{TurnSays}
 use Rattle.search.proofs.Rounds.{Between, between-next, key-left, outcome-found, outcome-exhausted, outcome-full}
 use Rattle.search.proofs.settle_all.Statement.{statement}

@@ -1,4 +1,4 @@
-use mathlib.Core.Path.{_≡_, sym, subst, ap}
+use mathlib.Core.Path.{sym, subst}
 use Prim.Native.Nat.{_<_}
 use native.Mathlib.Omega.{arith}
 use lib.ListN.{length}
@@ -6,7 +6,6 @@ use borrow.Author.Needs.{needs}
 use Rattle.moves.specs.Runs.{tripIn}
 use Rattle.moves.proofs.Rising.{run-sound}
 use Rattle.labels.specs.declared.Label.{Label}
-use Rattle.labels.specs.Lists.{LabelAdded}
 use Rattle.winners.proofs.Steps.{entering}
 use Rattle.search.proofs.Turning.{added-as, onward-as, settles, settled-now, still-chosen, key-same, chosen-range, ready-now}
 use Rattle.search.proofs.settle_label.Statement.{statement}
