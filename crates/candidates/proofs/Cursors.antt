@@ -8,7 +8,7 @@ use Prim.Native.Nat.{ℕ, _+_, _≤_, _<_}
 use native.Mathlib.Omega.{arith}
 use borrow.Author.Tests.{eqb-true, eq-eqb}
 use lib.Dec.{eqb}
-use Rattle.replies.proofs.First.{cases, not-both}
+use Rattle.booleans.proofs.Tests.{cases, not-both, and-true}
 use Rattle.roadmap.specs.Format.{roadCount, roadFrom}
 use Rattle.driving.specs.declared.Order.{Order}
 use Rattle.moves.specs.declared.State.{State}
@@ -16,7 +16,7 @@ use Rattle.moves.specs.declared.Move.{Move}
 use Rattle.moves.specs.Trip.{Trip, tripOf, parkIn}
 use Rattle.moves.specs.Moves.{move, pauseMove, offers, afterBreak, afterRest}
 use Rattle.moves.proofs.Trips.{roads-in, order-in, leaves-road}
-use Rattle.moves.proofs.Stepped.{and-true, leaves-range}
+use Rattle.moves.proofs.Stepped.{leaves-range}
 use Rattle.journeys.specs.Journeys.{succs}
 use Rattle.journeys.proofs.Journeys.{succs-from}
 use Rattle.candidates.specs.declared.Bound.{Bound}

@@ -8,7 +8,7 @@ use native.Mathlib.Omega.{arith}
 use native.Mathlib.Nat.{eq-or-lt-of-le}
 use borrow.Author.Tests.{ltb-true, ltb-false}
 use lib.Dec.{T, T-not, not-T, ltb}
-use Rattle.replies.proofs.First.{cases, not-both}
+use Rattle.booleans.proofs.Tests.{cases, not-both, T-true, true-T}
 use Rattle.driving.specs.declared.Order.{Order}
 use Rattle.moves.specs.declared.State.{State}
 use Rattle.moves.specs.Trip.{Trip, roadsIn}
@@ -16,7 +16,6 @@ use Rattle.moves.specs.Moves.{offers, legal}
 use Rattle.theory.specs.States.{Covered}
 use Rattle.theory.proofs.Sorting.{le-of-not, never-self}
 use Rattle.journeys.specs.Ranked.{covers, ranksNoHigher}
-use Rattle.journeys.proofs.Journeys.{T-true, true-T}
 use Rattle.journeys.proofs.Ranked.{rank-order, slack-covers}
 use Rattle.labels.specs.LabelWords.{settled}
 use Rattle.labels.specs.Lists.{SomeCovers, Says}

@@ -7,12 +7,12 @@ use Prim.Native.Nat.{ℕ, _≤_}
 use native.Mathlib.Omega.{arith}
 use lib.Dec.{T, T-not, lit≤}
 use lib.ListN.{length}
+use Rattle.booleans.proofs.Tests.{and-l, and-r}
 use Rattle.replies.specs.declared.Reply.{Reply}
 use Rattle.replies.specs.First.{Test, _at_, refusedOr, firstOf, NoneFits}
 use Rattle.replies.specs.Told.{refusedAt}
 use Rattle.replies.proofs.First.{Numbered, none-fits, none-fitted, none-at-all, stops-at}
 use Rattle.theory.specs.Lists.{every}
-use Rattle.theory.proofs.Tests.{and-l, and-r}
 use Rattle.roadmap.specs.Format.{junctionCount}
 use Rattle.mapcheck.specs.MapCheck.{mapTests, chainingTests}
 use Rattle.driving.specs.declared.Order.{Order}

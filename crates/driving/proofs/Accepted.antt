@@ -3,14 +3,14 @@ use mathlib.Core.Path.{_≡_, refl}
 use mathlib.Core.Bool.{true, false}
 use mathlib.Core.List.{List, [], _∷_, _++_}
 use mathlib.Core.Logic.{⊎-elim}
-use mathlib.Core.Option.{Option, none, some}
+use mathlib.Core.Option.{none}
 use Prim.Native.Nat.{ℕ, _≤_}
-use native.Mathlib.Omega.{arith}
 use lib.Dec.{lit≤, eqb}
 use lib.ListN.{length}
 use borrow.Author.Tests.{le-leb, leb-true, eq-eqb, eqb-true}
+use Rattle.booleans.proofs.Tests.{cases, some-not-none}
 use Rattle.replies.specs.First.{NoneFits}
-use Rattle.replies.proofs.First.{cases, Numbered}
+use Rattle.replies.proofs.First.{Numbered}
 use Rattle.driving.specs.declared.Order.{Order}
 use Rattle.driving.specs.declared.Figures.{Figures}
 use Rattle.driving.specs.declared.Rules.{Rules}
@@ -21,9 +21,6 @@ use Rattle.driving.specs.Accepted.{SoundRules, SoundFigures, AcceptedOrd
 abbrev pub AllKept : List Rule → Type 0
 AllKept [] = Unit {0}
 AllKept (r ∷ rs) = (r .kept ≡ true) × AllKept rs
-
-some-not-none : {w : ℕ} → _≡_ {A = Option ℕ} (some w) none → ⊥
-some-not-none e = let z : _≡_ {A = ℕ} 0 1 = cc in omega arith
 
 pub all-kept : (rs : List Rule) → firstBroken rs ≡ none → AllKept rs
 unfolding firstBroken

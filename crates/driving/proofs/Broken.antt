@@ -6,12 +6,12 @@ use mathlib.Core.Logic.{⊎-elim}
 use Prim.Native.Nat.{ℕ}
 use lib.ListN.{length}
 use borrow.Author.Tests.{eq-eqb}
+use Rattle.booleans.proofs.Tests.{cases}
 use Rattle.replies.specs.declared.Reply.{Reply}
 use Rattle.replies.specs.declared.Check.{Check}
 use Rattle.replies.specs.declared.Refusal.{Refusal}
 use Rattle.replies.specs.Told.{succeeded, refusedAt, toldRefusal, toldCheck}
 use Rattle.replies.specs.First.{_at_, firstOf}
-use Rattle.replies.proofs.First.{cases}
 use Rattle.driving.specs.declared.Order.{Order}
 use Rattle.driving.specs.Order.{Rule, firstBroken, endRules, figureRules, badEnds, badFigures, badTrip, badRules, orderOf, orderTests}
 use Rattle.driving.specs.Steps.{ruledBy}

@@ -8,8 +8,9 @@ use Prim.Native.Nat.{ℕ, _+_, _≤_, _<_}
 use native.Mathlib.Omega.{arith}
 use lib.Dec.{eqb}
 use borrow.Author.Tests.{eq-eqb, ne-eqb}
+use Rattle.booleans.proofs.Tests.{cases}
 use Rattle.replies.specs.First.{lowest}
-use Rattle.replies.proofs.First.{cases, lowest-none, lowest-found}
+use Rattle.replies.proofs.First.{lowest-none, lowest-found}
 use Rattle.driving.specs.declared.Order.{Order}
 use Rattle.driving.specs.declared.Rules.{Rules}
 use Rattle.driving.specs.Order.{Rule, firstBroken, limitRules, endRules, figureRules, badRules, badTrip}

@@ -7,14 +7,13 @@ use mathlib.Core.Option.{some}
 use Prim.Native.Nat.{ℕ, _+_}
 use native.Mathlib.Omega.{arith}
 use lib.Dec.{T}
-use Rattle.replies.proofs.First.{cases}
+use Rattle.booleans.proofs.Tests.{cases, and-true, T-true, true-T}
 use Rattle.moves.specs.declared.State.{State}
 use Rattle.moves.specs.declared.Move.{Move}
 use Rattle.moves.specs.declared.Step.{Step}
 use Rattle.moves.specs.Trip.{Trip, junctionsIn}
 use Rattle.moves.specs.Moves.{offers, offered, after, legal, judged, stepped}
 use Rattle.moves.specs.Compared.{Slack, Eases}
-use Rattle.moves.proofs.Stepped.{and-true}
 use Rattle.moves.proofs.Offered.{offered-in, offered-from}
 use Rattle.moves.specs.Runs.{InRange}
 use Rattle.moves.proofs.Rising.{SoundTrip, clock-after, range-after, start-range}
@@ -22,17 +21,6 @@ use Rattle.moves.proofs.Monotone.{eased-move}
 use Rattle.theory.specs.States.{Reach, start, step}
 use Rattle.theory.proofs.Lists.{keep-from, keep-head, keep-tail}
 use Rattle.journeys.specs.Journeys.{Leads, stay, go, Reached, timed, totalSeconds, results, succs}
-
--- a test that passes, both ways
-pub T-true : {b : Bool} → T b → b ≡ true
-T-true {b} t = go-by b t
-  where
-    go-by : (b : Bool) → T b → b ≡ true
-    go-by true t = refl
-    go-by false t = absurd t
-
-pub true-T : {b : Bool} → b ≡ true → T b
-true-T e = rw e tt
 
 module _ (trip : Trip) where
   -- one list of moves after another

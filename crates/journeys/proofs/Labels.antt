@@ -8,6 +8,7 @@ use Prim.Native.Nat.{_≤_, _<_}
 use lib.Dec.{T}
 use lib.ListN.{getD}
 use borrow.Author.Tests.{eq-eqb}
+use Rattle.booleans.proofs.Tests.{T-true, true-T}
 use Rattle.moves.specs.declared.State.{State}
 use Rattle.moves.specs.declared.Move.{Move}
 use Rattle.moves.specs.Trip.{Trip}
@@ -22,7 +23,7 @@ use Rattle.journeys.specs.Journeys.{startIn, atTarget, Journey, Reached,
 use Rattle.journeys.specs.Ranked.{sameState, covers, dominatesState, ranksNoHigher, UndominatedIn}
 use Rattle.journeys.specs.Labels.{reachableIn, answerIn, labelsIn, labelCount}
 use Rattle.journeys.proofs.Ranked.{rank-order, rank-clock, same-decides}
-use Rattle.journeys.proofs.Journeys.{T-true, true-T, OneMove, succs-from, leads-reach, reach-leads}
+use Rattle.journeys.proofs.Journeys.{OneMove, succs-from, leads-reach, reach-leads}
 use Rattle.journeys.proofs.Laws.{laws, goal-covers, all-reachable}
 
 -- Reach is: some list of moves leads there.

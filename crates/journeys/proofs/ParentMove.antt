@@ -6,18 +6,17 @@ use mathlib.Core.Logic.{_⊎_, inl, inr, ⊎-elim}
 use mathlib.Core.Option.{some}
 use Prim.Native.Nat.{ℕ, zero, suc, _+_, _≤_, _<_}
 use native.Mathlib.Omega.{arith}
-use Rattle.replies.proofs.First.{cases, not-both}
+use Rattle.booleans.proofs.Tests.{cases, not-both, and-true, T-true, true-T}
 use Rattle.moves.specs.declared.State.{State}
 use Rattle.moves.specs.declared.Move.{Move}
 use Rattle.moves.specs.Trip.{Trip, counted, roadsIn, parkIn}
 use Rattle.moves.specs.Moves.{move, pauseMove, leaves, drives, pauses, offers, offered, after, legal}
-use Rattle.moves.proofs.Stepped.{and-true}
 use Rattle.moves.proofs.Offered.{offered-in, offered-from}
 use Rattle.journeys.specs.Journeys.{succs}
 use Rattle.journeys.specs.Ranked.{sameState}
 use Rattle.journeys.specs.Plan.{movesTo, firstTo, moveTo}
 use Rattle.journeys.proofs.Ranked.{same-decides}
-use Rattle.journeys.proofs.Journeys.{T-true, true-T, succs-from}
+use Rattle.journeys.proofs.Journeys.{succs-from}
 
 -- m stands before n: a lower kind, or the same kind and a lower number
 pub data Before (m n : Move) : Type 0 where

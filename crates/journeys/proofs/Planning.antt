@@ -9,10 +9,11 @@ use native.Mathlib.Omega.{arith}
 use borrow.Author.Tests.{ne-eqb, lt-ltb, le-ltb, ltb-true, ltb-false}
 use lib.Dec.{ltb, eqb}
 use lib.ListN.{length}
+use Rattle.booleans.proofs.Tests.{cases}
 use Rattle.replies.specs.declared.Reply.{Reply}
 use Rattle.replies.specs.Told.{succeeded, refusedAt}
 use Rattle.replies.specs.First.{Test, _at_, refusedOr, firstOf, NoneFits}
-use Rattle.replies.proofs.First.{cases, none-fits}
+use Rattle.replies.proofs.First.{none-fits}
 use Rattle.roadmap.specs.Format.{junctionCount}
 use Rattle.mapcheck.specs.MapCheck.{mapTests, AcceptedMap}
 use Rattle.driving.specs.Order.{orderOf, orderTests}

@@ -6,10 +6,10 @@ use Prim.Native.Nat.{ℕ, _≤_, _<_}
 use native.Mathlib.Nat.{eq-or-lt-of-le}
 use native.Mathlib.Omega.{arith}
 use lib.Dec.{T, leb, ltb, eqb, leb→le, le→leb, ltb→lt, lt→ltb, nltb→le, eqb→eq, eqb-refl}
+use Rattle.booleans.proofs.Tests.{T-cases, and-l, and-r, and-i, or-e, or-l, or-r}
 use Rattle.moves.specs.declared.State.{State}
 use Rattle.moves.specs.Compared.{Slack}
 use Rattle.theory.specs.Lists.{Order, Decides}
-use Rattle.theory.proofs.Tests.{T-cases, and-l, and-r, and-i, or-e, or-l, or-r}
 use Rattle.journeys.specs.Ranked.{sameState, covers, firstBy, ranksNoHigher}
 
 -- One figure, and then what follows.

@@ -9,8 +9,8 @@ use native.Mathlib.Omega.{arith}
 use borrow.Author.Tests.{ltb-true, ltb-false, eqb-true, eq-eqb}
 use lib.Dec.{eqb, ltb}
 use lib.ListN.{List·getD-eq-default}
+use Rattle.booleans.proofs.Tests.{cases, not-both}
 use Rattle.replies.specs.First.{NoneFits}
-use Rattle.replies.proofs.First.{cases, not-both}
 use Rattle.roadmap.specs.Format.{junctionCount, roadCount, carPark}
 use Rattle.mapcheck.specs.MapCheck.{AcceptedMap}
 use Rattle.driving.specs.Order.{orderOf, orderTests}

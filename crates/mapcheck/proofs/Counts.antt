@@ -1,21 +1,18 @@
 -- Refusals 1 to 4, one after the other, and what the counts are where none of them fits. Assumes nothing.
 use mathlib.Core.Path.{_≡_, refl, sym}
-use mathlib.Core.Bool.{Bool, true, false, _||_}
+use mathlib.Core.Bool.{Bool, true, false}
 use mathlib.Core.List.{List}
 use mathlib.Core.Option.{Option, none, some}
 use Prim.Native.Nat.{ℕ, _≤_, _<_}
 use native.Mathlib.Omega.{arith}
 use borrow.Author.Tests.{lt-ltb, le-ltb, ltb-false, eq-eqb, ne-eqb}
 use lib.ListN.{length}
+use Rattle.booleans.proofs.Tests.{or-false}
 use Rattle.replies.specs.declared.Refusal.the-variants.{ShortMap, StrangeMap, Oversize, Misfit}
 use Rattle.replies.specs.First.{firstOf, placed, NoneFits, Refuses}
 use Rattle.roadmap.specs.declared.Sizes.{Sizes}
 use Rattle.roadmap.specs.Format.{format, junctionCount, roadCount, nameBytes, lengthNeeded, mostJunctions, mostRoads, mostNameBytes}
 use Rattle.mapcheck.specs.MapCheck.{outside, orElse, oversizeCounts, oversize, sizeTests}
-
-pub or-false : {a b : Bool} → (a || b) ≡ false → (a ≡ false) × (b ≡ false)
-or-false {a = true} {b} e = absurd (let z : _≡_ {A = ℕ} 0 1 = cc in omega arith)
-or-false {a = false} {b} e = (refl, e)
 
 -- a number that is not outside a range is within it
 pub record Within (low high value : ℕ) : Type 0 where

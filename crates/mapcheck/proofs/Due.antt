@@ -1,7 +1,7 @@
 -- One pass over the roads finds the lowest broken one: what is due on each chain, and the least road noticed on a chain
 -- that is not its from-junction's. Assumes nothing.
 use mathlib.Core.Path.{_≡_, refl, sym}
-use mathlib.Core.Bool.{Bool, true, false, not, _||_, _&&_}
+use mathlib.Core.Bool.{Bool, true, false, not, _&&_}
 use mathlib.Core.List.{List}
 use mathlib.Core.Logic.{_⊎_, inl, inr, ⊎-elim}
 use mathlib.Core.Option.{Option, none, some}
@@ -11,8 +11,9 @@ use borrow.Author.Tests.{eqb-true, eqb-false, ne-eqb, ltb-true, ltb-false, not-t
 use lib.Dec.{eqb, ltb}
 use lib.ListN.{length, getD, set}
 use lib.Seq.{getD-set-same, getD-set-other}
+use Rattle.booleans.proofs.Tests.{cases, not-both, and-true, or-cases, or-right}
 use Rattle.replies.specs.First.{lowest}
-use Rattle.replies.proofs.First.{cases, not-both, lowest-some, lowest-is-none}
+use Rattle.replies.proofs.First.{lowest-some, lowest-is-none}
 use Rattle.roadmap.specs.Format.{junctionCount, roadCount, firstRoad, nextRoad, roadFrom}
 use Rattle.mapcheck.specs.Chain.{among, chain, isSome, onAnother, brokenChainAt}
 use Rattle.mapcheck.specs.Links.{Reaches, here, later, Links, Foreign, Broken, MapLinks, MapBroken}
@@ -186,24 +187,6 @@ module _ (first next from : ℕ → ℕ) (J R : ℕ) where
         unseen
         (omega (arith, before .above, before .noticed j l (omega arith) (omega arith) (λ same. other (cc))))
 
--- either of two tests
-or-right : (b : Bool) {c : Bool} → c ≡ true → (b || c) ≡ true
-or-right true e = refl
-or-right false e = e
-
-or-cases : (b c : Bool) → (b || c) ≡ true → (b ≡ true) ⊎ (c ≡ true)
-or-cases true c e = inl refl
-or-cases false c e = inr e
-
--- both of two tests
-and-left : (b c : Bool) → (b && c) ≡ true → b ≡ true
-and-left true c e = refl
-and-left false c e = e
-
-and-right : (b c : Bool) → (b && c) ≡ true → c ≡ true
-and-right true c e = e
-and-right false c e = absurd (not-both e refl)
-
 -- an answer that is some place, and one that is none
 is-some : (o : Option ℕ) → isSome o ≡ true → (i : ℕ) × (o ≡ some i)
 is-some none e = absurd (not-both e refl)
@@ -255,13 +238,13 @@ module _ (map : List ℕ) (links : MapLinks map) (r : ℕ) (low : 1 ≤ r) (high
     where
       astray : (i : ℕ) × (lowest strays 1 (junctionCount map) ≡ some i) → Foreign (firstRoad map) (nextRoad map) (roadFrom map) (junctionCount map) r
       astray (j, e) =
-          let at = lowest-some strays 1 (junctionCount map) j e in (
+          let at = lowest-some strays 1 (junctionCount map) j e in
+          let apart = and-true {a = not (eqb j (roadFrom map r))} {b = among r (chain map j)} (at .here) in (
             j,
             at .low,
             omega (arith, at .high),
-            eqb-false j (roadFrom map r) (not-true (eqb j (roadFrom map r)) (and-left (not (eqb j (roadFrom map r))) (among r (chain map j)) (at .here))),
-            on-chain (nextRoad map) (roadCount map) (firstRoad map j) r
-                (and-right (not (eqb j (roadFrom map r))) (among r (chain map j)) (at .here)),
+            eqb-false j (roadFrom map r) (not-true (eqb j (roadFrom map r)) (apart .0)),
+            on-chain (nextRoad map) (roadCount map) (firstRoad map j) r (apart .1),
           )
 
   -- a road that is not broken is told as sound

@@ -9,7 +9,8 @@ use native.Mathlib.Omega.{arith}
 use native.Mathlib.Nat.{eq-or-lt-of-le}
 use borrow.Author.Tests.{eqb-true, eqb-false}
 use lib.Dec.{eqb}
-use Rattle.replies.proofs.First.{cases, NoneBelow}
+use Rattle.booleans.proofs.Tests.{cases}
+use Rattle.replies.proofs.First.{NoneBelow}
 use Rattle.roadmap.specs.Format.{junctionCount, roadCount, firstRoad, nextRoad, roadFrom}
 use Rattle.mapcheck.specs.Chain.{chainFrom, chain, brokenChainAt}
 use Rattle.mapcheck.specs.Listed.{roadsFrom, lowestFrom}

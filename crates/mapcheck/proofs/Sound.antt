@@ -10,14 +10,15 @@ use native.Mathlib.Omega.{arith}
 use borrow.Author.Tests.{eqb-true, ltb-false, leb-false}
 use lib.Dec.{eqb, leb, ltb}
 use lib.ListN.{length}
-use Rattle.replies.proofs.First.{cases, NoneBelow, lowest-is-none}
+use Rattle.booleans.proofs.Tests.{cases, or-false}
+use Rattle.replies.proofs.First.{NoneBelow, lowest-is-none}
 use Rattle.roadmap.specs.Format.{junctionCount, roadCount, nameBytes, firstRoad, carPark, nameStart, nameLength, nextRoad, roadFrom, roadTo, roadMetres, roadSpeed, lengthNeeded}
 use Rattle.roadmap.specs.RoadTime.{mostMetres, leastSpeed, mostSpeed}
 use Rattle.mapcheck.specs.Chain.{chain}
 use Rattle.mapcheck.specs.Links.{MapLinks}
 use Rattle.mapcheck.specs.Listed.{roadsFrom}
 use Rattle.mapcheck.specs.MapCheck.{badJunctionAt, badJunction, badNext, badRoadAt, badRoad, oversize, AcceptedMap}
-use Rattle.mapcheck.proofs.Counts.{or-false, Within, within, InRange, in-range}
+use Rattle.mapcheck.proofs.Counts.{Within, within, InRange, in-range}
 use Rattle.mapcheck.proofs.Listed.{map-listed}
 use Rattle.mapcheck.proofs.Tried.{has-whole, accepted-sizes}
 

@@ -11,9 +11,10 @@ use native.Mathlib.Nat.{add-zero}
 use borrow.Author.Tests.{eqb-true, eqb-false, not-false, le-ltb, lt-leb}
 use lib.Dec.{eqb}
 use lib.ListN.{length, getD}
+use Rattle.booleans.proofs.Tests.{cases}
 use Rattle.words.proofs.Put.{Apart}
 use Rattle.replies.specs.First.{NoneFits}
-use Rattle.replies.proofs.First.{cases, lowest-none, lowest-is-none}
+use Rattle.replies.proofs.First.{lowest-none, lowest-is-none}
 use Rattle.roadmap.specs.Format.{format, junctionCount, roadCount, nameBytes, namesAt, junctionAt, roadAt, lengthNeeded, junctionWord, roadWord, firstRoad, nextRoad, roadFrom}
 use Rattle.mapcheck.specs.Links.{MapLinks}
 use Rattle.mapcheck.specs.MapCheck.{oversize, badJunctionAt, badJunction, badNext, badRoadAt, badRoad, brokenChain, badLetterAt, badLettering, chainingTests, AcceptedMap}

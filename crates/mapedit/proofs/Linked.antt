@@ -9,8 +9,8 @@ use native.Mathlib.Nat.{add-zero}
 use borrow.Author.Tests.{ltb-true, ltb-false, eq-eqb, ne-eqb}
 use lib.Dec.{ltb}
 use lib.ListN.{length, getD}
+use Rattle.booleans.proofs.Tests.{cases}
 use Rattle.words.specs.Word.{wordAt, putAt}
-use Rattle.replies.proofs.First.{cases}
 use Rattle.roadmap.specs.declared.Sizes.{Sizes}
 use Rattle.roadmap.specs.Format.{HasSizes, format, junctionCount, roadCount, nameBytes, junctionAt, roadAt, lengthNeeded, junctionWord, roadWord, firstRoad, nextRoad, roadFrom}
 use Rattle.mapcheck.specs.Listed.{lowestFrom}

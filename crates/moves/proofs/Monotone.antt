@@ -7,7 +7,7 @@ use Prim.Native.Nat.{ℕ, _+_, _≤_}
 use native.Mathlib.Omega.{arith}
 use borrow.Author.Tests.{le-leb, leb-true, eqb-true, eq-eqb}
 use lib.Dec.{leb, eqb}
-use Rattle.replies.proofs.First.{cases, not-both}
+use Rattle.booleans.proofs.Tests.{cases, not-both, and-true}
 use Rattle.driving.specs.declared.Order.{Order}
 use Rattle.driving.specs.declared.Rules.{Rules}
 use Rattle.moves.specs.declared.State.{State}
@@ -15,7 +15,6 @@ use Rattle.moves.specs.declared.Move.{Move}
 use Rattle.moves.specs.Trip.{Stretch, Trip, roadIn, roadsIn}
 use Rattle.moves.specs.Moves.{leaves, pausesAt, offers, driven, afterBreak, afterRest, after, legal}
 use Rattle.moves.specs.Compared.{Slack, Eases}
-use Rattle.moves.proofs.Stepped.{and-true}
 
 -- one move of each kind; a cleared figure is 0 in both
 module _ (slack more : ℕ) (b a : State) (near : Slack slack b a) where

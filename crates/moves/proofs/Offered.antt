@@ -8,12 +8,11 @@ use native.Mathlib.Omega.{arith}
 use native.Mathlib.Nat.{eq-or-lt-of-le}
 use borrow.Author.Tests.{leb-true, eqb-true, eq-eqb}
 use lib.Dec.{leb, eqb}
-use Rattle.replies.proofs.First.{cases, not-both}
+use Rattle.booleans.proofs.Tests.{cases, not-both, and-true}
 use Rattle.moves.specs.declared.State.{State}
 use Rattle.moves.specs.declared.Move.{Move}
 use Rattle.moves.specs.Trip.{Trip, counted, parkIn, roadsIn}
 use Rattle.moves.specs.Moves.{move, pauseMove, leaves, pausesAt, offers, drives, pauses, offered}
-use Rattle.moves.proofs.Stepped.{and-true}
 
 counted-mem : (k n r : ℕ) → k ≤ r → r < k + n → List·Memᴰ r (counted (λ r. r) k n)
 unfolding counted

@@ -7,7 +7,7 @@ use Prim.Native.Nat.{ℕ, _+_, _≤_}
 use native.Mathlib.Omega.{arith}
 use borrow.Author.Tests.{leb-true}
 use lib.Dec.{leb, eqb}
-use Rattle.replies.proofs.First.{cases}
+use Rattle.booleans.proofs.Tests.{cases, and-true}
 use Rattle.roadmap.specs.Format.{junctionCount, roadCount}
 use Rattle.roadmap.proofs.RoadTime.{at-least-1}
 use Rattle.mapcheck.specs.MapCheck.{AcceptedMap}
@@ -21,7 +21,6 @@ use Rattle.moves.specs.Trip.{Trip, tripOf, roadIn, roadsIn, junctionsIn}
 use Rattle.moves.specs.Moves.{startOf, leaves, offers, after, legal, moveSeconds}
 use Rattle.moves.specs.Runs.{Accepted, InRange, tripIn}
 use Rattle.moves.proofs.Trips.{roads-in, junctions-in, order-in, road-in}
-use Rattle.moves.proofs.Stepped.{and-true}
 use Rattle.moves.proofs.Monotone.{legal-facts}
 
 -- what is sound of a run's record: its roads lead to its junctions and take time, and so do its pauses

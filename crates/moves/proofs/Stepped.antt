@@ -5,8 +5,8 @@ use mathlib.Core.List.{List}
 use Prim.Native.Nat.{ℕ, _≤_}
 use borrow.Author.Tests.{eq-eqb, ne-eqb, leb-true}
 use lib.Dec.{leb}
+use Rattle.booleans.proofs.Tests.{and-true}
 use Rattle.roadmap.specs.Format.{roadCount}
-use Rattle.replies.proofs.First.{not-both}
 use Rattle.driving.specs.declared.Order.{Order}
 use Rattle.moves.specs.declared.State.{State}
 use Rattle.moves.specs.declared.Move.{Move}
@@ -34,10 +34,6 @@ module _ (trip : Trip) (s : State) (m : Move) where
   pub stepped-other : (m .kind ≡ 1 → ⊥) → (m .kind ≡ 2 → ⊥) → (m .kind ≡ 3 → ⊥) → stepped trip s m ≡ Step.Foreign
   unfolding offers
   stepped-other not-1 not-2 not-3 = rw (ne-eqb _ _ not-1, ne-eqb _ _ not-2, ne-eqb _ _ not-3)
-
-pub and-true : {a b : Bool} → (a && b) ≡ true → (a ≡ true) × (b ≡ true)
-and-true {a = true} e = (refl, e)
-and-true {a = false} e = absurd (not-both e refl)
 
 -- a road that leaves a junction is one of the map's
 pub leaves-range : (map : List ℕ) (o : Order) (j r : ℕ) → leaves (tripOf map o) j r ≡ true → (1 ≤ r) × (r ≤ roadCount map)

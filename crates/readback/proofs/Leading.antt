@@ -9,7 +9,7 @@ use native.Mathlib.Omega.{arith}
 use native.Mathlib.Nat.{eq-or-lt-of-le}
 use borrow.Author.Tests.{eqb-true, eq-eqb}
 use lib.Dec.{eqb}
-use Rattle.replies.proofs.First.{cases, not-both}
+use Rattle.booleans.proofs.Tests.{cases, not-both, and-true}
 use Rattle.roadmap.specs.Format.{roadCount, roadFrom}
 use Rattle.driving.specs.declared.Order.{Order}
 use Rattle.moves.specs.declared.State.{State}
@@ -17,7 +17,7 @@ use Rattle.moves.specs.declared.Move.{Move}
 use Rattle.moves.specs.Trip.{Trip, tripOf, stretchOf, parkIn}
 use Rattle.moves.specs.Moves.{move, offers, driven, afterBreak, after, legal}
 use Rattle.moves.proofs.Trips.{order-in, road-in, leaves-road}
-use Rattle.moves.proofs.Stepped.{and-true, leaves-range}
+use Rattle.moves.proofs.Stepped.{leaves-range}
 use Rattle.journeys.specs.Ranked.{sameState}
 use Rattle.journeys.specs.Plan.{movesTo, moveTo}
 use Rattle.journeys.proofs.ParentMove.{Before, kind-below, number-below, MoveTo, test-move, move-test, move-some, move-is}

@@ -8,7 +8,7 @@ use native.Mathlib.Omega.{arith}
 use native.Mathlib.Nat.{eq-or-lt-of-le}
 use lib.Dec.{ltb}
 use borrow.Author.Tests.{ltb-true, ltb-false, not-true, not-false}
-use Rattle.replies.proofs.First.{cases, not-both}
+use Rattle.booleans.proofs.Tests.{cases, not-both, and-true}
 use Rattle.roadmap.specs.Format.{junctionCount, roadCount, firstRoad, nextRoad, roadFrom}
 use Rattle.mapcheck.specs.MapCheck.{AcceptedMap}
 use Rattle.mapcheck.proofs.Listed.{LowestFrom, lowest-from}
@@ -16,7 +16,6 @@ use Rattle.driving.specs.declared.Order.{Order}
 use Rattle.moves.specs.declared.State.{State}
 use Rattle.moves.specs.Trip.{tripOf}
 use Rattle.moves.specs.Moves.{move}
-use Rattle.moves.proofs.Stepped.{and-true}
 use Rattle.journeys.specs.Plan.{movesTo}
 use Rattle.candidates.proofs.Roads.{upTo, at-road, at-end, accepted-made}
 use Rattle.readback.specs.Moving.{Drives, RoadTo, passesBy}

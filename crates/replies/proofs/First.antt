@@ -2,29 +2,19 @@
 use mathlib.Core.Path.{_≡_, _∙_, refl, sym, ap}
 use mathlib.Core.Bool.{Bool, true, false}
 use mathlib.Core.List.{List, [], _∷_, _++_, append-assoc}
-use mathlib.Core.Logic.{_⊎_, inl, inr, ⊎-elim}
+use mathlib.Core.Logic.{_⊎_, ⊎-elim}
 use mathlib.Core.Option.{Option, none, some}
 use Prim.Native.Nat.{ℕ, zero, suc, _+_, _≤_, _<_}
 use native.Mathlib.Omega.{arith}
 use native.Mathlib.Nat.{eq-or-lt-of-le}
 use lib.Dec.{lit≤}
+use Rattle.booleans.proofs.Tests.{cases, not-both, some-not-none}
 use Rattle.replies.specs.declared.Reply.{Reply}
 use Rattle.replies.specs.declared.Refusal.{Refusal}
 use Rattle.replies.specs.declared.Refusal.the-variants.{ShortMap, StrangeMap, Oversize, Misfit, BadJunction, BadRoad, BrokenChain, BadLettering, BadOrder, BadRules, BadTrip, Full, NoRoad, ShortSheet, TornSheet, ForeignMove, Overrun, FalseFigure, Stray, UnknownName}
 use Rattle.replies.specs.declared.Check.{Check}
 use Rattle.replies.specs.Told.{refusedAt, succeeded, toldRefusal, toldCheck}
 use Rattle.replies.specs.First.{Test, refusedOr, firstOf, lowest, NoneFits, Refuses, Tried}
-
--- a test's two cases, with what each says
-pub cases : (b : Bool) → (b ≡ true) ⊎ (b ≡ false)
-cases true = inl refl
-cases false = inr refl
-
-pub not-both : {b : Bool} → b ≡ true → b ≡ false → ⊥
-not-both {b} p q = let z : _≡_ {A = ℕ} 0 1 = cc in omega arith
-
-some-not-none : {i : ℕ} → _≡_ {A = Option ℕ} none (some i) → ⊥
-some-not-none p = let z : _≡_ {A = ℕ} 0 1 = cc in omega arith
 
 -- it is none of the numbers from k below i
 abbrev pub NoneBelow : (ℕ → Bool) → ℕ → ℕ → Type 0
@@ -67,7 +57,7 @@ pub record Lowest (fits : ℕ → Bool) (k n i : ℕ) : Type 0 where
 
 pub lowest-some : (fits : ℕ → Bool) (k n i : ℕ) → lowest fits k n ≡ some i → Lowest fits k n i
 unfolding lowest
-lowest-some fits k zero i e = absurd (some-not-none e)
+lowest-some fits k zero i e = absurd (some-not-none (sym e))
 lowest-some fits k (suc n) i e =
     ⊎-elim
     (λ (at-k : fits k ≡ true).
@@ -89,7 +79,7 @@ unfolding lowest
 lowest-is-none fits k zero e x low high = absurd (omega arith)
 lowest-is-none fits k (suc n) e x low high =
     ⊎-elim
-    (λ (at-k : fits k ≡ true). absurd (some-not-none (sym (rw (at-k, lowest) at e))))
+    (λ (at-k : fits k ≡ true). absurd (some-not-none (rw (at-k, lowest) at e)))
     (λ (not-k : fits k ≡ false).
     ⊎-elim
     (λ (same : k ≡ x). rw (← same) not-k)

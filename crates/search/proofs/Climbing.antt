@@ -5,10 +5,10 @@ use Prim.Native.Nat.{ℕ, _+_, _-_, _*_, _≤_, _<_}
 use native.Mathlib.Omega.{arith}
 use native.Mathlib.Decide.{decLe}
 use lib.ListN.{set}
+use Rattle.booleans.proofs.Tests.{T-true, true-T}
 use Rattle.moves.specs.declared.State.{State}
 use Rattle.moves.specs.declared.Run.{Run}
 use Rattle.moves.specs.Runs.{Accepted, tripIn}
-use Rattle.journeys.proofs.Journeys.{T-true, true-T}
 use Rattle.journeys.proofs.Ranked.{rank-order}
 use Rattle.labels.specs.LabelWords.{labelAt, cursorOf, winnerOf}
 use Rattle.candidates.specs.declared.Bound.{Bound}

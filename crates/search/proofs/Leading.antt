@@ -5,10 +5,10 @@ use Prim.Native.Nat.{ℕ, _+_, _-_, _≤_, _<_}
 use native.Mathlib.Omega.{arith}
 use lib.Dec.{T}
 use lib.ListN.{length, getD}
+use Rattle.booleans.proofs.Tests.{true-T}
 use Rattle.moves.specs.declared.Run.{Run}
 use Rattle.moves.specs.Runs.{Accepted, tripIn}
 use Rattle.journeys.specs.Ranked.{ranksNoHigher}
-use Rattle.journeys.proofs.Journeys.{true-T}
 use Rattle.labels.specs.LabelWords.{cursorOf}
 use Rattle.candidates.specs.Candidates.{statesOf}
 use Rattle.winners.specs.Keys.{noKey, keyAt, Ready}

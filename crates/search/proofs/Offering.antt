@@ -5,6 +5,7 @@ use Prim.Native.Nat.{ℕ, _+_, _≤_}
 use native.Mathlib.Omega.{arith}
 use borrow.Author.Tests.{eq-eqb}
 use lib.Dec.{T, eqb→eq}
+use Rattle.booleans.proofs.Tests.{true-T}
 use Rattle.moves.specs.declared.State.{State}
 use Rattle.moves.specs.declared.Run.{Run}
 use Rattle.moves.specs.Runs.{Accepted, tripIn}
@@ -12,7 +13,6 @@ use Rattle.moves.specs.Trip.{tripOf}
 use Rattle.theory.specs.States.{Covered}
 use Rattle.journeys.specs.Journeys.{atTarget}
 use Rattle.journeys.specs.Ranked.{covers}
-use Rattle.journeys.proofs.Journeys.{true-T}
 use Rattle.labels.specs.LabelWords.{labelAt, cursorOf, winnerOf}
 use Rattle.labels.specs.Lists.{LabelAdded}
 use Rattle.candidates.specs.Candidates.{stateOf, labelOf, statesOf, resultAt}

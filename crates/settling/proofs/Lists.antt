@@ -7,9 +7,9 @@ use native.Mathlib.Omega.{arith}
 use lib.Dec.{T-not, ltb, ltb→lt, nltb→le, eqb, eqb→eq, eqb-refl}
 use lib.ListN.{length, getD, set, length-append, List·getD-append}
 use lib.Seq.{getD-at, getD-set-same, getD-set-other}
+use Rattle.booleans.proofs.Tests.{T-cases}
 use Rattle.moves.specs.declared.State.{State}
 use Rattle.moves.specs.Trip.{Trip}
-use Rattle.theory.proofs.Tests.{T-cases}
 use Rattle.journeys.specs.Journeys.{startIn}
 use Rattle.candidates.specs.Candidates.{resultAt}
 use Rattle.settling.specs.Settling.{stateAt, candidateOf}

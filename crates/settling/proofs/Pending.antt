@@ -6,11 +6,11 @@ use mathlib.Core.List.{List, [], _∷_, _++_, List·Memᴰ, Memᴰ·append-left}
 use mathlib.Core.Logic.{⊎-elim}
 use Prim.Native.Nat.{ℕ, _≤_}
 use lib.Dec.{T}
+use Rattle.booleans.proofs.Tests.{T-cases}
 use Rattle.moves.specs.declared.State.{State}
 use Rattle.moves.specs.Trip.{Trip}
 use Rattle.moves.proofs.Rising.{SoundTrip}
 use Rattle.theory.specs.States.{Covered}
-use Rattle.theory.proofs.Tests.{T-cases}
 use Rattle.theory.proofs.Sorting.{le-of-not}
 use Rattle.journeys.specs.Journeys.{succs}
 use Rattle.journeys.specs.Ranked.{covers, ranksNoHigher}

@@ -2,7 +2,7 @@
 use mathlib.Core.Bool.{Bool, true, false, not, _||_}
 use mathlib.Core.List.{List, [], _∷_, _++_, append-assoc, append-nil}
 use mathlib.Core.Logic.{⊎-elim}
-use mathlib.Core.Option.{Option, none, some}
+use mathlib.Core.Option.{none}
 use mathlib.Core.Path.{_≡_, _∙_, refl, ap}
 use Prim.Native.Nat.{ℕ, zero, suc, _+_, _*_, _-_, _≤_, _<_, _/_, _%_}
 use native.Mathlib.Nat.{add-zero, add-assoc, add-sub-cancel-left}
@@ -12,11 +12,11 @@ use borrow.Author.Tests.{ltb-false, eqb-true, not-false, le-ltb, eq-eqb}
 use lib.Dec.{ltb, eqb}
 use lib.ListN.{length, take, drop, getD, length-append}
 use lib.Seq.{take-at, drop-nil, getD-append-add}
+use Rattle.booleans.proofs.Tests.{cases, some-not-none, or-false}
 use Rattle.words.specs.Word.{wordAt}
 use Rattle.sheets.specs.declared.Heading.{Heading}
 use Rattle.sheets.specs.declared.Row.{Row}
 use Rattle.sheets.specs.Sheet.{wordBytes, headingBytes, headingOf, rowBytes, rowsBytes, rowAt, rowsOf, sheetNeeded, mostMoves, sheetAfter, torn, tornSheet}
-use Rattle.replies.proofs.First.{cases, not-both}
 use Rattle.sheets.specs.Written.{Whole}
 use Rattle.sheets.proofs.Splice.{length-splice}
 use Rattle.sheets.proofs.Bytes.{length-row, length-rows, length-heading}
@@ -124,28 +124,18 @@ module _ (h : Heading) (rows : List Row) (s : List ℕ) where
   pub prefix-rows : rowsOf (take (sheetNeeded (length rows)) (sheetAfter h rows s)) 1 (length rows) ≡ rows
   prefix-rows = rw (prefix-after h rows s) (rows-back h rows [])
 
-some-not-none : {i : ℕ} → _≡_ {A = Option ℕ} (some i) none → ⊥
-some-not-none p = let z : _≡_ {A = ℕ} 0 1 = cc in omega arith
-
-or-left : (a b : Bool) → a || b ≡ false → a ≡ false
-or-left false b e = refl
-or-left true b e = e
-
-or-right : (a b : Bool) → a || b ≡ false → b ≡ false
-or-right false b e = e
-or-right true b e = absurd (not-both {b = true} refl e)
-
 pub whole-sheet : (sheet : List ℕ) → torn sheet ≡ false → Whole sheet
 unfolding torn
 whole-sheet sheet e =
     let short : Bool = ltb (length sheet) 20 in
     let many : Bool = ltb mostMoves (headingOf sheet .moves) in
     let other : Bool = not (eqb (length sheet) (sheetNeeded (headingOf sheet .moves))) in
-    let late : many || other ≡ false = or-right short (many || other) e in
+    let whole = or-false {a = short} {b = many || other} e in
+    let late = or-false {a = many} {b = other} (whole .1) in
     record {
-      long = ltb-false _ _ (or-left short (many || other) e);
-      few = ltb-false _ _ (or-left many other late);
-      exact = eqb-true _ _ (not-false _ (or-right many other late));
+      long = ltb-false _ _ (whole .0);
+      few = ltb-false _ _ (late .0);
+      exact = eqb-true _ _ (not-false _ (late .1));
     }
 
 pub whole-untorn : (sheet : List ℕ) → Whole sheet → torn sheet ≡ false

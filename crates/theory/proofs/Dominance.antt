@@ -9,10 +9,10 @@ use mathlib.Core.List.{List, List·Memᴰ, Memᴰ·cast}
 use mathlib.Core.Logic.{_⊎_, inl, inr, ⊎-elim}
 use mathlib.Core.Option.{Option, none, some}
 use lib.Dec.{T, T-not, not-T}
+use Rattle.booleans.proofs.Tests.{T-cases, and-l, and-r, and-i}
 use Rattle.theory.specs.Lists.{Decides, select, least, IsLeast}
 use Rattle.theory.specs.States.{Reach, start, step, dominates, Undominated, Laws, Rises}
 use Rattle.theory.specs.Reachable.{AllReached}
-use Rattle.theory.proofs.Tests.{T-cases, and-l, and-r, and-i}
 use Rattle.theory.proofs.Lists.{select-in, select-from}
 use Rattle.theory.proofs.Sorting.{le-self, strictly, least-is}
 

@@ -10,12 +10,12 @@ use mathlib.Core.Logic.{_⊎_, inl, inr, ⊎-elim}
 use mathlib.Core.Option.{Option, none, some}
 use lib.Dec.{T, ltb, ltb→lt, nltb→le}
 use lib.ListN.{length, getD, length-append}
+use Rattle.booleans.proofs.Tests.{T-cases}
 use Rattle.theory.specs.Lists.{Decides}
 use Rattle.theory.specs.States.{Reach, Covered, Undominated, Laws, GoalCovers}
 use Rattle.theory.specs.Settling.{leo, Lowest}
 use Rattle.theory.specs.Reachable.{AllReached}
 use Rattle.theory.specs.Labels.{answer, within, labels, IsAnswer}
-use Rattle.theory.proofs.Tests.{T-cases}
 use Rattle.theory.proofs.Lists.{mem-at, each-at}
 use Rattle.theory.proofs.Sorting.{le-self, le-of-not, strictly, strict-length, strict-snoc, strict-at}
 use Rattle.theory.proofs.Dominance.{undominated-over}

@@ -1,6 +1,5 @@
 -- The laws of the theory of a label-setting search over any type of states.
 -- Assumes nothing.
-pub mod Tests
 pub mod Lists
 pub mod Sorting
 pub mod Reachable

@@ -4,13 +4,18 @@ use Prim.Native.Nat.{ℕ, zero, suc, _≤_, _<_, zero-le, suc-le-suc}
 use native.Mathlib.Nat.{le-of-suc-le-suc, not-suc-le-zero}
 use native.Mathlib.Omega.{arith}
 use mathlib.Core.Path.{_≡_, refl, sym, ap, subst}
-use mathlib.Core.Bool.{Bool, true, false}
+use mathlib.Core.Bool.{Bool, true, false, not}
 use mathlib.Core.List.{List, [], _∷_, _++_, List·Memᴰ, List·Memᴰ·cases-cons, List·Memᴰ·head, List·Memᴰ·tail, List·Memᴰ·not-nil}
 use mathlib.Core.Logic.{_⊎_, inl, inr, ⊎-elim}
 use lib.Dec.{T, T-not, ltb, ltb→lt, nltb→le}
 use lib.ListN.{length, getD}
+use Rattle.booleans.proofs.Tests.{T-cases, and-l, and-r, and-i, or-e, or-l, or-r}
 use Rattle.theory.specs.Lists.{Decides, choose, keep, memb, every, select, position, Distinct, distinct-nil, distinct-cons}
-use Rattle.theory.proofs.Tests.{T-cases, and-l, and-r, and-i, or-e, or-l, or-r, choose-elim}
+
+-- what holds of the first where the test passes, and of the second where it fails, holds of the choice
+pub choose-elim : {A : Type 0} (P : A → Type 0) (b : Bool) {x y : A} → (T b → P x) → (T (not b) → P y) → P (choose b x y)
+choose-elim P true f g = f tt
+choose-elim P false f g = g tt
 
 -- Members.
 module _ {S : Type 0} where

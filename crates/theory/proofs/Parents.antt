@@ -9,11 +9,11 @@ use mathlib.Core.Logic.{⊎-elim}
 use mathlib.Core.Option.{Option, none, some}
 use lib.Dec.{T, ltb, ltb→lt, nltb→le}
 use lib.ListN.{length, getD}
+use Rattle.booleans.proofs.Tests.{T-cases}
 use Rattle.theory.specs.Lists.{Decides}
 use Rattle.theory.specs.States.{Laws, Rises}
 use Rattle.theory.specs.Reachable.{AllReached}
 use Rattle.theory.specs.Labels.{answer, within, labels, leads, parent}
-use Rattle.theory.proofs.Tests.{T-cases}
 use Rattle.theory.proofs.Lists.{memb-mem, mem-memb, mem-at, at-mem, position-le, position-at, position-is, position-append}
 use Rattle.theory.proofs.Sorting.{never-self, strict-at, strict-before}
 use Rattle.theory.proofs.Dominance.{move-above, undominated-parent}

@@ -7,10 +7,10 @@ use mathlib.Core.Bool.{Bool, not, _||_}
 use mathlib.Core.List.{List, [], _∷_, _++_, List·Memᴰ, List·Memᴰ·append-cases, Memᴰ·append-left, Memᴰ·append-right, List·Memᴰ·cases-cons, List·Memᴰ·head, List·Memᴰ·tail, List·Memᴰ·not-nil, Memᴰ·cast, List·Memᴰ·eq-of-singleton}
 use mathlib.Core.Logic.{_⊎_, inl, inr, ⊎-elim}
 use lib.Dec.{T, T-not}
+use Rattle.booleans.proofs.Tests.{T-cases, or-e, or-l, or-r}
 use Rattle.theory.specs.Lists.{Decides, memb, keep, Distinct, distinct-nil, distinct-cons}
 use Rattle.theory.specs.States.{Reach, start, step, Rises}
 use Rattle.theory.specs.Reachable.{onward, fresh, explore, reachable, AllReached}
-use Rattle.theory.proofs.Tests.{T-cases, or-e, or-l, or-r}
 use Rattle.theory.proofs.Lists.{keep-from, keep-head, keep-tail, keep-distinct, memb-mem, mem-memb}
 
 module _ {S : Type 0} where

@@ -6,10 +6,10 @@ use mathlib.Core.List.{List, List·Memᴰ, Memᴰ·cast}
 use mathlib.Core.Logic.{⊎-elim}
 use mathlib.Core.Option.{Option, none, some}
 use lib.Dec.{T, T-not, not-T}
+use Rattle.booleans.proofs.Tests.{T-cases}
 use Rattle.theory.specs.Lists.{Decides, StrictlySorted}
 use Rattle.theory.specs.States.{Reach, start, step, Covered, Undominated, Laws}
 use Rattle.theory.specs.Settling.{below, leo, Settled, Lowest}
-use Rattle.theory.proofs.Tests.{T-cases}
 use Rattle.theory.proofs.Dominance.{undominated-top, low-undominated}
 
 module _ {S : Type 0} {succs : S → List S} {le cov : S → S → Bool} (laws : Laws succs le cov) where

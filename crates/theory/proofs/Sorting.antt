@@ -10,9 +10,9 @@ use mathlib.Core.Logic.{_⊎_, inl, inr, ⊎-elim}
 use mathlib.Core.Option.{Option, none, some}
 use lib.Dec.{T, T-not, not-T, ltb, ltb→lt, nltb→le}
 use lib.ListN.{length, getD}
+use Rattle.booleans.proofs.Tests.{T-cases}
 use Rattle.theory.specs.Lists.{Order, lower, least, IsLeast, insert, sorted, Distinct, distinct-nil, distinct-cons, StrictlySorted, sorted-nil, sorted-cons}
-use Rattle.theory.proofs.Tests.{T-cases, choose-elim}
-use Rattle.theory.proofs.Lists.{mem-elim, mem-at}
+use Rattle.theory.proofs.Lists.{choose-elim, mem-elim, mem-at}
 
 module _ {S : Type 0} {le : S → S → Bool} (order : Order le) where
   -- each ranks no higher than itself

@@ -7,7 +7,7 @@ use native.Mathlib.Omega.{arith}
 use native.Mathlib.Decide.{ℕ-discrete}
 use borrow.Author.Tests.{ltb-true, ltb-false, leb-true, leb-false, le-leb, lt-leb}
 use lib.Dec.{leb, ltb}
-use Rattle.replies.proofs.First.{cases}
+use Rattle.booleans.proofs.Tests.{cases}
 use Rattle.moves.specs.declared.State.{State}
 use Rattle.journeys.specs.Ranked.{ranksNoHigher}
 use Rattle.candidates.specs.Candidates.{rankNumber}
