@@ -24,7 +24,7 @@ use Rattle.moves.specs.Opened.{runTests}
 use Rattle.sheets.specs.declared.Heading.{Heading}
 use Rattle.sheets.specs.declared.Row.{Row}
 use Rattle.sheets.specs.Sheet.{shortSheet}
-use Rattle.retiming.specs.Walk.{Walk, reached, recorded, walk, arrivalOf, stray}
+use Rattle.retiming.specs.Walk.{Walk, reached, recorded, walk, arrivalReached, stray}
 use Rattle.retiming.specs.Retiming.{movesOn, timing, sheetTests, retimingTests, retimingReply}
 use Rattle.retiming.proofs.Walking.{walk-end, walk-moved}
 use Rattle.journeys.specs.Journeys.{startIn, atTarget, Leads, stay, go, Journey}
@@ -83,7 +83,7 @@ module _ {mapA orderA words sheet sheet′ : List ℕ} {answer : Planning} (w : 
   -- retiming them under B replies 0, A's M and the clock that they lead to
   retimed-afresh : retimingReply mapB orderB (headerAndRecords sheet′) out ≡ succeeded (movesOn sheet′) (u .clock .0)
   retimed-afresh =
-      ap (λ (t : Walk). firstOf (retimingTests mapB orderB (headerAndRecords sheet′) out t) (succeeded (movesOn (headerAndRecords sheet′)) (arrivalOf t))) walked
+      ap (λ (t : Walk). firstOf (retimingTests mapB orderB (headerAndRecords sheet′) out t) (succeeded (movesOn (headerAndRecords sheet′)) (arrivalReached t))) walked
       ∙ none-at-all (runTests mapB orderB ++ late-tests) _ (none-of-both (runTests mapB orderB) late-tests (none-run accepted-b) none-late)
       ∙ ap (λ (m : ℕ). succeeded m (u .clock .0)) count-kept
 

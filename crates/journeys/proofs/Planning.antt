@@ -154,17 +154,17 @@ module _ (trip : Trip) (fit sheet : ℕ) where
       by-none (some a) e f = absurd (f (planMoves trip) a (plan-journey trip sound e))
 
   -- a run that plans: the answer, with room for its labels and its sheet
-  pub record Planned : Type 0 where
+  pub record PlannedFacts : Type 0 where
     pub answer : State
     pub answered : answerIn trip ≡ some answer
     pub room : labelCount trip ≤ fit
     pub long : bytesNeeded trip ≤ sheet
     pub told : searchReply trip fit sheet ≡ succeeded (labelCount trip) (answer .clock .0)
 
-  pub planned-facts : number ≡ 0 → Planned
+  pub planned-facts : number ≡ 0 → PlannedFacts
   planned-facts e = by-case search-case e
     where
-      by-case : SearchCase → number ≡ 0 → Planned
+      by-case : SearchCase → number ≡ 0 → PlannedFacts
       by-case (case-full h q) e = absurd (omega (arith, numbered 12 fit 0 q))
       by-case (case-no-road room n q) e = absurd (omega (arith, numbered 13 (labelCount trip) 0 q))
       by-case (case-short room a s h q) e = absurd (omega (arith, numbered 14 (bytesNeeded trip) 0 q))

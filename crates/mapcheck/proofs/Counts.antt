@@ -34,13 +34,13 @@ or-else-none {a = none} e = (refl, e)
 or-else-none {a = some x} e = absurd (let z : _≡_ {A = ℕ} 0 1 = cc in omega arith)
 
 -- counts that are not oversize are in range
-pub record InRange (junctions roads names : ℕ) : Type 0 where
+pub record CountsInRange (junctions roads names : ℕ) : Type 0 where
   pub some-junctions : 1 ≤ junctions
   pub few-junctions : junctions ≤ mostJunctions
   pub few-roads : roads ≤ mostRoads
   pub few-names : names ≤ mostNameBytes
 
-pub in-range : (junctions roads names : ℕ) → oversizeCounts junctions roads names ≡ none → InRange junctions roads names
+pub in-range : (junctions roads names : ℕ) → oversizeCounts junctions roads names ≡ none → CountsInRange junctions roads names
 in-range junctions roads names e =
     let first = or-else-none e in
     let rest = or-else-none (first .1) in

@@ -18,7 +18,7 @@ use Rattle.mapcheck.specs.Chain.{chain}
 use Rattle.mapcheck.specs.Links.{MapLinks}
 use Rattle.mapcheck.specs.Listed.{roadsFrom}
 use Rattle.mapcheck.specs.MapCheck.{badJunctionAt, badJunction, badNext, badRoadAt, badRoad, oversize, AcceptedMap}
-use Rattle.mapcheck.proofs.Counts.{Within, within, InRange, in-range}
+use Rattle.mapcheck.proofs.Counts.{Within, within, CountsInRange, in-range}
 use Rattle.mapcheck.proofs.Listed.{map-listed}
 use Rattle.mapcheck.proofs.Tried.{has-whole, accepted-sizes}
 
@@ -92,7 +92,7 @@ module _ (map : List ℕ) where
 
   -- what an accepted map is
   pub record SoundMap : Type 0 where
-    pub counts : InRange (junctionCount map) (roadCount map) (nameBytes map)
+    pub counts : CountsInRange (junctionCount map) (roadCount map) (nameBytes map)
     pub whole : length map ≡ lengthNeeded map
     pub junctions : (j : ℕ) → 1 ≤ j → j ≤ junctionCount map → SoundJunction j
     pub roads : (r : ℕ) → 1 ≤ r → r ≤ roadCount map → SoundRoad r

@@ -22,7 +22,7 @@ use Rattle.sheets.specs.declared.Row.{Row}
 use Rattle.sheets.specs.Sheet.{headingOf, rowsOf, sheetNeeded, sheetAfter, tornSheet}
 use Rattle.sheets.specs.Written.{Whole}
 use Rattle.sheets.proofs.Reading.{none-whole, length-rows-of, prefix-heading, prefix-rows, prefix-untorn}
-use Rattle.retiming.specs.Walk.{Walk, refused, reached, moveOf, trueRow, recorded, walk, moveTest, stray, arrivalOf, rowSeconds}
+use Rattle.retiming.specs.Walk.{Walk, refused, reached, moveOf, trueRow, recorded, walk, moveTest, stray, arrivalReached, rowSeconds}
 use Rattle.retiming.specs.Retiming.{movesOn, timing, sheetTests, retimingTests, retimingReply, retimedSheet, falseFigures, falseHeader, auditTests, auditReply}
 use Rattle.retiming.proofs.Walking.{OneRow, stops, passes, one-row, walk-end, walk-moved, moved-to}
 use Rattle.retiming.proofs.Rewriting.{cut, walk-length}
@@ -186,12 +186,12 @@ module _ (map order sheet out : List ℕ) (number-0 : retimingReply map order sh
 
   -- retiming that succeeds replies 0, M and the clock of the state reached
   pub retimed-reply : retimingReply map order sheet out ≡ succeeded (movesOn sheet) (reached-state .clock .0)
-  retimed-reply = none-at-all (retimingTests map order sheet out found) _ none-fitting ∙ ap (λ (w : Walk). succeeded (movesOn sheet) (arrivalOf w)) found-reached
+  retimed-reply = none-at-all (retimingTests map order sheet out found) _ none-fitting ∙ ap (λ (w : Walk). succeeded (movesOn sheet) (arrivalReached w)) found-reached
 
   -- and auditing the header and the M records of what it wrote replies the same
   pub retimed-audits : auditReply map order kept ≡ succeeded (movesOn sheet) (reached-state .clock .0)
   retimed-audits =
-      ap (λ (w : Walk). firstOf (auditTests map order kept w) (succeeded (movesOn kept) (arrivalOf w))) audited-walk
+      ap (λ (w : Walk). firstOf (auditTests map order kept w) (succeeded (movesOn kept) (arrivalReached w))) audited-walk
       ∙ none-at-all (auditTests map order kept (reached reached-state true-rows)) _ (none-of-both (runTests map order) (sheetTests (orderOf order) kept (reached reached-state true-rows) ++ ((18 at falseHeader (headingOf kept) (reached reached-state true-rows)) ∷ [])) run-tests audit-tests)
       ∙ ap (λ (h : Heading). succeeded (h .moves) (reached-state .clock .0)) kept-heading
 

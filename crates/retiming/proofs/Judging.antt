@@ -17,7 +17,7 @@ use Rattle.moves.specs.declared.State.{State}
 use Rattle.sheets.specs.declared.Heading.{Heading}
 use Rattle.sheets.specs.Sheet.{headingOf, torn}
 use Rattle.retiming.specs.declared.Walked.{Walked}
-use Rattle.retiming.specs.Walk.{Walk, refused, reached, arrivalOf}
+use Rattle.retiming.specs.Walk.{Walk, refused, reached, arrivalReached}
 use Rattle.retiming.specs.Retiming.{movesOn, timing, sheetTests, falseFigures, falseHeader}
 use Rattle.retiming.specs.Parts.{WalkSays, SheetSays, auditedRun}
 
@@ -44,7 +44,7 @@ module _ (order : Order) (sheet : List ℕ) where
     none-of-15-to-19 (reached t rows) s ended home = (rw whole, (refl, (rw (← ended, eq-eqb _ _ home), tt)))
 
 -- the figures of the state that a walk reached
-pub arrival-reached : (timed : Walk) (s : State) → WalkSays timed (Walked.Reached s) → arrivalOf timed ≡ s .clock .0
+pub arrival-reached : (timed : Walk) (s : State) → WalkSays timed (Walked.Reached s) → arrivalReached timed ≡ s .clock .0
 arrival-reached (refused number move) s ended = absurd ended
 arrival-reached (reached t rows) s ended = rw ended
 

@@ -22,7 +22,7 @@ use Rattle.sheets.specs.Written.{rowsPut}
 use Rattle.sheets.proofs.Writing.{heading-last}
 use Rattle.sheets.proofs.Reading.{length-rows-of}
 use Rattle.retiming.specs.declared.Walked.{Walked}
-use Rattle.retiming.specs.Walk.{Walk, arrivalOf}
+use Rattle.retiming.specs.Walk.{Walk, arrivalReached}
 use Rattle.retiming.specs.Retiming.{movesOn, timing, sheetTests, retimedTo, retimingReply}
 use Rattle.retiming.specs.Parts.{SheetSays, rowsReached, RetimedRun, Retimed}
 use Rattle.retiming.proofs.Judging.{arrival-reached}
@@ -67,8 +67,8 @@ module _ (map : List ℕ) (order : Order) (sheet before : List ℕ) where
         record {
           reply = rw (is, ← arrival-reached timed s (ended .2))
               (sym
-              (none-fits (sheetTests order sheet timed) ((14 at shortSheet (movesOn sheet) (length before)) ∷ []) (succeeded (movesOn sheet) (arrivalOf timed)) (ended .1)
-              ∙ passed-over (14 at shortSheet (movesOn sheet) (length before)) [] (succeeded (movesOn sheet) (arrivalOf timed)) (rw (le-ltb _ _ enough))));
+              (none-fits (sheetTests order sheet timed) ((14 at shortSheet (movesOn sheet) (length before)) ∷ []) (succeeded (movesOn sheet) (arrivalReached timed)) (ended .1)
+              ∙ passed-over (14 at shortSheet (movesOn sheet) (length before)) [] (succeeded (movesOn sheet) (arrivalReached timed)) (rw (le-ltb _ _ enough))));
           bytes = written
               ∙ heading-last (retimedHeading given s) (rowsReached timed) before (rw count enough)
               ∙ ap (λ (h : Heading). sheetAfter (retimedHeading h s) (rowsReached timed) before) is

@@ -16,7 +16,7 @@ use Rattle.sheets.specs.Sheet.{headingOf, shortSheet}
 use Rattle.sheets.specs.Written.{Whole}
 use Rattle.moves.specs.declared.State.{State}
 use Rattle.retiming.specs.declared.Walked.{Walked}
-use Rattle.retiming.specs.Walk.{Walk, refused, reached, arrivalOf}
+use Rattle.retiming.specs.Walk.{Walk, refused, reached, arrivalReached}
 use Rattle.retiming.specs.Retiming.{movesOn, timing, sheetTests, falseHeader, retimedTo, retimingReply, retimedSheet}
 
 abbrev pub pickWalk : Bool → Walk → Walk → Walk
@@ -43,7 +43,7 @@ SheetSays order sheet timed (Walked.Reached s) = Whole sheet × NoneFits (sheetT
 abbrev pub auditedRun : List ℕ → Order → List ℕ → Reply
 auditedRun map order sheet =
     firstOf (sheetTests order sheet (timing true map order sheet) ++ ((18 at falseHeader (headingOf sheet) (timing true map order sheet)) ∷ []))
-    (succeeded (movesOn sheet) (arrivalOf (timing true map order sheet)))
+    (succeeded (movesOn sheet) (arrivalReached (timing true map order sheet)))
 
 -- no refusal met the walk
 abbrev pub Ends : Walk → Type 0
@@ -63,7 +63,7 @@ rowsReached (reached s rows) = rows
 abbrev pub retimedRun : List ℕ → Order → List ℕ → List ℕ → Reply
 retimedRun map order sheet before =
     firstOf (sheetTests order sheet (timing false map order sheet) ++ ((14 at shortSheet (movesOn sheet) (length before)) ∷ []))
-    (succeeded (movesOn sheet) (arrivalOf (timing false map order sheet)))
+    (succeeded (movesOn sheet) (arrivalReached (timing false map order sheet)))
 
 -- the answer and the other sheet afterwards, once a run is opened
 pub record RetimedRun (map : List ℕ) (order : Order) (sheet before after : List ℕ) (answer : Timing) : Type 0 where

@@ -17,7 +17,7 @@ use Rattle.moves.specs.Moves.{startOf}
 use Rattle.moves.specs.Opened.{runTests}
 use Rattle.sheets.specs.declared.Heading.{Heading}
 use Rattle.sheets.specs.Sheet.{headingOf, rowsOf, sheetAfter, shortSheet, tornSheet}
-use Rattle.retiming.specs.Walk.{Walk, refused, reached, walk, moveTest, stray, arrivalOf}
+use Rattle.retiming.specs.Walk.{Walk, refused, reached, walk, moveTest, stray, arrivalReached}
 
 abbrev pub movesOn : List ℕ → ℕ
 movesOn sheet = headingOf sheet .moves
@@ -41,7 +41,7 @@ retimingTests map order sheet out timed =
 abbrev pub retimingReply : List ℕ → List ℕ → List ℕ → List ℕ → Reply
 retimingReply map order sheet out =
     firstOf (retimingTests map order sheet out (timing false map (orderOf order) sheet))
-    (succeeded (movesOn sheet) (arrivalOf (timing false map (orderOf order) sheet)))
+    (succeeded (movesOn sheet) (arrivalReached (timing false map (orderOf order) sheet)))
 
 -- the same moves with true figures, N copied
 abbrev pub retimedTo : Heading → Walk → List ℕ → List ℕ
@@ -84,4 +84,4 @@ auditTests map order sheet timed =
 abbrev pub auditReply : List ℕ → List ℕ → List ℕ → Reply
 auditReply map order sheet =
     firstOf (auditTests map order sheet (timing true map (orderOf order) sheet))
-    (succeeded (movesOn sheet) (arrivalOf (timing true map (orderOf order) sheet)))
+    (succeeded (movesOn sheet) (arrivalReached (timing true map (orderOf order) sheet)))

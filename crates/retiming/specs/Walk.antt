@@ -49,9 +49,9 @@ abbrev pub stray : ℕ → Walk → Option ℕ
 stray target (refused number move) = none
 stray target (reached s rows) = placed (not (eqb (s .junction) target)) (s .junction)
 
-abbrev pub arrivalOf : Walk → ℕ
-arrivalOf (refused number move) = 0
-arrivalOf (reached s rows) = s .clock .0
+abbrev pub arrivalReached : Walk → ℕ
+arrivalReached (refused number move) = 0
+arrivalReached (reached s rows) = s .clock .0
 
 -- the sum of road times, breaks and rests
 unfoldable pub rowSeconds : Trip → List Row → ℕ
