@@ -26,8 +26,7 @@ use Rattle.moves.specs.declared.Move.{Move}
 use Rattle.moves.specs.Trip.{Trip}
 use Rattle.sheets.specs.declared.Heading.{Heading}
 use Rattle.sheets.specs.Sheet.{headingOf}
-use Rattle.retiming.specs.Retiming.{movesOn, timing, retimingTests, auditTests, auditReply}
-use Rattle.retiming.specs.Parts.{Retimed}
+use Rattle.retiming.specs.Retiming.{movesOn, timing, retimingTests, auditTests, auditReply, Retimed}
 use Rattle.journeys.specs.Journeys.{Journey}
 use Rattle.journeys.specs.Labels.{labelCount}
 use Rattle.journeys.specs.Plan.{bytesNeeded}

@@ -16,8 +16,7 @@ use Rattle.moves.specs.declared.Move.{Move}
 use Rattle.moves.specs.Trip.{Trip}
 use Rattle.sheets.specs.Sheet.{headingOf, rowsOf, sheetNeeded}
 use Rattle.retiming.specs.Walk.{moveOf}
-use Rattle.retiming.specs.Retiming.{movesOn}
-use Rattle.retiming.specs.Parts.{Retimed}
+use Rattle.retiming.specs.Retiming.{movesOn, Retimed}
 use Rattle.journeys.specs.Journeys.{startIn, Journey}
 use Rattle.journeys.specs.Plan.{rowsFrom}
 

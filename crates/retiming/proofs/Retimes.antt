@@ -23,8 +23,8 @@ use Rattle.sheets.proofs.Writing.{heading-last}
 use Rattle.sheets.proofs.Reading.{length-rows-of}
 use Rattle.retiming.specs.declared.Walked.{Walked}
 use Rattle.retiming.specs.Walk.{Walk, arrivalReached}
-use Rattle.retiming.specs.Retiming.{movesOn, timing, sheetTests, retimedTo, retimingReply}
-use Rattle.retiming.specs.Parts.{SheetSays, rowsReached, RetimedRun, Retimed}
+use Rattle.retiming.specs.Retiming.{movesOn, timing, sheetTests, retimedTo, retimingReply, Retimed}
+use Rattle.retiming.specs.Parts.{SheetSays, rowsReached, RetimedRun}
 use Rattle.retiming.proofs.Judging.{arrival-reached}
 use Rattle.retiming.proofs.Rewriting.{reached-is, walk-length}
 

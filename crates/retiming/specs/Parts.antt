@@ -17,7 +17,7 @@ use Rattle.sheets.specs.Written.{Whole}
 use Rattle.moves.specs.declared.State.{State}
 use Rattle.retiming.specs.declared.Walked.{Walked}
 use Rattle.retiming.specs.Walk.{Walk, refused, reached, arrivalReached}
-use Rattle.retiming.specs.Retiming.{movesOn, timing, sheetTests, falseHeader, retimedTo, retimingReply, retimedSheet}
+use Rattle.retiming.specs.Retiming.{movesOn, timing, sheetTests, falseHeader, retimedTo}
 
 abbrev pub pickWalk : Bool → Walk → Walk → Walk
 pickWalk true a b = a
@@ -69,8 +69,3 @@ retimedRun map order sheet before =
 pub record RetimedRun (map : List ℕ) (order : Order) (sheet before after : List ℕ) (answer : Timing) : Type 0 where
   pub reply : toldTiming answer ≡ retimedRun map order sheet before
   pub bytes : after ≡ pick (eqb (toldTiming answer .number) 0) (retimedTo (headingOf sheet) (timing false map order sheet) before) before
-
--- retiming's answer and the other sheet afterwards
-pub record Retimed (map order sheet before after : List ℕ) (answer : Timing) : Type 0 where
-  pub reply : toldTiming answer ≡ retimingReply map order sheet before
-  pub bytes : after ≡ retimedSheet map order sheet before

@@ -1,4 +1,5 @@
 -- Retiming and audit: the reply for any input, and the sheet afterwards. Document 01, "Retiming" and "Afterwards". Assumes nothing.
+use mathlib.Core.Path.{_≡_}
 use mathlib.Core.Bool.{Bool, true, false, not, _||_}
 use mathlib.Core.List.{List, [], _∷_, _++_}
 use mathlib.Core.Option.{Option, none}
@@ -6,8 +7,9 @@ use Prim.Native.Nat.{ℕ, _+_}
 use lib.Dec.{eqb}
 use lib.ListN.{length}
 use Rattle.replies.specs.declared.Reply.{Reply}
+use Rattle.replies.specs.declared.Timing.{Timing}
 use Rattle.replies.specs.First.{Test, _at_, firstOf, placed}
-use Rattle.replies.specs.Told.{succeeded}
+use Rattle.replies.specs.Told.{succeeded, toldTiming}
 use Rattle.replies.specs.Pick.{pick}
 use Rattle.driving.specs.declared.Order.{Order}
 use Rattle.driving.specs.Order.{orderOf}
@@ -64,6 +66,11 @@ retimedSheet map order sheet out =
     pick (eqb (retimingReply map order sheet out .number) 0)
     (retimedTo (headingOf sheet) (timing false map (orderOf order) sheet) out)
     out
+
+-- what retiming owes: its answer, and every byte of the other sheet
+pub record Retimed (map order sheet before after : List ℕ) (answer : Timing) : Type 0 where
+  pub reply : toldTiming answer ≡ retimingReply map order sheet before
+  pub bytes : after ≡ retimedSheet map order sheet before
 
 -- 18 false figure in the header: arrival, spell or shift; M + 1
 unfoldable pub falseFigures : Heading → State → Bool

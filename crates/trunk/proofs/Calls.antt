@@ -22,8 +22,7 @@ use Rattle.mapcheck.specs.MapCheck.{mapTests}
 use Rattle.mapedit.specs.Name.{nameReply, nameAt, namePart}
 use Rattle.mapedit.specs.Chaining.{ChainMaking}
 use Rattle.mapedit.proofs.Named.{length-named}
-use Rattle.retiming.specs.Retiming.{auditReply}
-use Rattle.retiming.specs.Parts.{Retimed}
+use Rattle.retiming.specs.Retiming.{auditReply, Retimed}
 use Rattle.planner.specs.Planned.{Planned}
 use Rattle.trunk.specs.Written.{replyPut, partPut}
 use Rattle.trunk.specs.Calls.{MapCheckCall, PlanCall, RetimeCall, AuditCall, NameCall, ChainsCall, namePut}
