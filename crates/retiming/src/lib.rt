@@ -19,7 +19,6 @@ use moves::State;
 use moves::Step;
 use replies::Refusal;
 use replies::Timing;
-use seconds::Clock;
 use sheets::Heading;
 use sheets::Row;
 
