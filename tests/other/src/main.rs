@@ -1,4 +1,4 @@
-//! The program: `other self-test`, `practice`, `cases`, `compare`, `wrong`, `trials`.
+//! The program: `other self-test`, `practice`, `cases`, `compare`, `wrong`, `trials`, `listings`.
 
 use std::io::Read;
 use std::panic::catch_unwind;
@@ -6,6 +6,7 @@ use std::process::ExitCode;
 use std::time::Instant;
 
 use other::compare::{compare, compare_random};
+use other::listing::listings;
 use other::make::practice::{practice_map, MOST_JUNCTIONS};
 use other::operations::DOCUMENT;
 use other::self_test::tests;
@@ -19,7 +20,8 @@ other practice J START FILE        write the practice map of J junctions and a s
 other cases SEED COUNT             say what the random cases reach
 other compare SEED COUNT [WRONG]   hold the planner against itself, or against a wrong copy
 other wrong SEED COUNT             say how many cases it takes to find each wrong copy
-other trials < STORED              answer the stored worked cases";
+other trials < STORED              answer the stored worked cases
+other listings < TRIPS             list trips as the program `plan` does, an empty line behind each";
 
 fn main() -> ExitCode {
     let arguments: Vec<String> = std::env::args().skip(1).collect();
@@ -31,7 +33,8 @@ fn main() -> ExitCode {
         ["compare", seed, count] => compare_with(None, seed, count),
         ["compare", seed, count, wrong] => compare_with(Some(wrong), seed, count),
         ["wrong", seed, count] => find_wrong_copies(seed, count),
-        ["trials"] => answer_trials(),
+        ["trials"] => answer(trials::answers),
+        ["listings"] => answer(listings),
         _ => Err(USAGE.to_string()),
     };
     match done {
@@ -131,11 +134,12 @@ fn find_wrong_copies(seed: &str, count: &str) -> Result<(), String> {
     }
 }
 
-fn answer_trials() -> Result<(), String> {
-    let mut stored = Vec::new();
+/// Prints what is answered to all of standard input.
+fn answer(answers: fn(&[u8]) -> String) -> Result<(), String> {
+    let mut given = Vec::new();
     std::io::stdin()
-        .read_to_end(&mut stored)
+        .read_to_end(&mut given)
         .map_err(|error| error.to_string())?;
-    print!("{}", trials::answers(&stored));
+    print!("{}", answers(&given));
     Ok(())
 }

@@ -27,6 +27,7 @@ pub fn tests() -> Vec<Test> {
         trial_trips::spell_just_met_and_just_missed,
         trial_trips::dominance,
         trial_trips::sheet_just_long_enough,
+        trial_trips::listings_one_after_the_other,
         trial_trips::european_figures,
         map_cases::sizes,
         map_cases::junctions,

@@ -1,11 +1,13 @@
 //! Document 01's trial trips.
 
 use super::fixtures::*;
+use crate::listing::listings;
 use crate::map::Road;
 use crate::moves::{State, Trip, DRIVE};
-use crate::order::EUROPEAN_RULES;
+use crate::order::{Order, EUROPEAN_RULES};
 use crate::reply::Reply;
 use crate::sheet::Sheet;
+use crate::words::bytes_of;
 
 fn time(metres: u64, speed: u64) -> u64 {
     let road = Road {
@@ -99,6 +101,32 @@ pub fn sheet_just_long_enough() {
     assert_eq!(reply, Reply::success(4, 20_700));
     assert_eq!(sheet[..56], plan_t().bytes());
     assert_eq!(sheet[56..], [MARK; 4]);
+}
+
+/// Map T's listing, and that of an order which no journey meets.
+pub fn listings_one_after_the_other() {
+    let map = map_t().bytes();
+    let mut trips = Vec::new();
+    for latest in [20_700, 20_699] {
+        let order = Order {
+            latest,
+            ..order_t()
+        };
+        let order = order.bytes();
+        trips.extend(bytes_of(&[map.len() as u64, order.len() as u64]));
+        trips.extend(&map);
+        trips.extend(order);
+    }
+    let expected = "\
+drive 1 Lay 10800
+break 2 Lay 13500
+drive 2 End 20700
+arrive 20700 7200 18000 labels 4
+
+refused 13 3
+
+";
+    assert_eq!(listings(&trips), expected);
 }
 
 pub fn european_figures() {
