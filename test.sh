@@ -10,6 +10,7 @@ for tool in rt python3 cc cargo; do
     fi
 done
 rt fmt --check
+cargo build --quiet --release --offline --manifest-path tests/other/Cargo.toml --target-dir tests/other/target
 python3 tests/worked_cases.py --check
 examples/run.sh
 tests/differential/run.sh

@@ -1,11 +1,9 @@
 """Worked cases of planning.
 
-Replies, figures and rows are written here by hand from document 01, and the brute-force reference must
-agree with each case that reaches the search. In a `computed` case only the reply's number is written
-by hand, and the reference gives the rest. Nothing is taken from the program. Where roads come back to
-a junction, latest is near, so that a planner that lists every reachable state can answer too.
+Replies, figures and rows are written here by hand from document 01. In a `computed` case only the reply's
+number is written by hand, and the other planner gives the rest. Nothing is taken from the program. Where
+roads come back to a junction, latest is near, since the other planner lists every reachable state.
 """
-import reference
 from case_files import case
 from formats import ALL_BITS, BREAK, DRIVE, EUROPE, REST, chained, map_t, order, sheet, words
 from made_trips import line, practice_map
@@ -17,17 +15,13 @@ PARK, NO_PARK = True, False
 MARK = 0xEEEEEEEE
 
 
-def plan(title, trunk, orders, reply, written, label_words, length, before):
-    """The sheet lent is `length` bytes of 0xEE, and every label word holds `before`."""
-    lent = b"\xee" * length
-    after = written + lent[len(written) :]
-    number = int(reply.split()[0])
-    if number == 0 or number >= 12:
-        computed_reply, computed_sheet = reference.planning(trunk, orders, label_words, lent)
-        if ("%d %d %d" % computed_reply, computed_sheet) != (reply, after):
-            raise SystemExit("%s: the reference replies %s" % (title, computed_reply))
-    answer = reply + " " + after.hex() + (" kept" if 1 <= number <= 11 else "")
-    case("p", title, answer, number=before, label_words=label_words, trunk=trunk, order=orders, sheet=lent)
+def plan(title, trunk, orders, answer, label_words, lent, before=MARK, computed=False):
+    """The sheet lent holds `lent`, and every label word holds `before`."""
+    case("p", title, answer, number=before, label_words=label_words, trunk=trunk, order=orders, sheet=lent, computed=computed)
+
+
+def unwritten(length):
+    return b"\xee" * length
 
 
 def planned(title, trunk, orders, labels, answer, rows, label_words=None, length=None, before=MARK):
@@ -35,19 +29,20 @@ def planned(title, trunk, orders, labels, answer, rows, label_words=None, length
     arrival, spell, shift = answer
     written = sheet(rows, arrival, spell, shift, labels)
     label_words = 8 * labels if label_words is None else label_words
-    length = len(written) + 4 if length is None else length
-    plan(title, trunk, orders, "0 %d %d" % (labels, arrival), written, label_words, length, before)
+    lent = unwritten(len(written) + 4 if length is None else length)
+    after = written + lent[len(written) :]
+    plan(title, trunk, orders, "0 %d %d %s" % (labels, arrival, after.hex()), label_words, lent, before)
 
 
 def refused(title, trunk, orders, number, place, label_words=80, length=80, before=MARK):
-    plan(title, trunk, orders, "%d %d 0" % (number, place), b"", label_words, length, before)
+    """The sheet stays, and so do the label words where the search has not begun."""
+    lent = unwritten(length)
+    kept = " kept" if number < 12 else ""
+    plan(title, trunk, orders, "%d %d 0 %s%s" % (number, place, lent.hex(), kept), label_words, lent, before)
 
 
 def computed(title, number, trunk, orders, label_words=1600, length=400):
-    reply, after = reference.planning(trunk, orders, label_words, b"\xee" * length)
-    if reply[0] != number:
-        raise SystemExit("%s: the reference replies %s" % (title, reply))
-    plan(title, trunk, orders, "%d %d %d" % reply, after, label_words, length, MARK)
+    plan(title, trunk, orders, "%d " % number, label_words, unwritten(length), computed=True)
 
 
 def trip_map(parks, roads):
@@ -225,7 +220,7 @@ refused("bad trip", T, order(w1=4), 11, 1)
 refused("bad trip before full and short sheet", T, order(w4=16201, w5=16201), 11, 4, label_words=7, length=0)
 refused("bad lettering before bad order", T[:-1] + b"\x7f", b"", 8, 132, label_words=9, before=0)
 
-# --- longer trips, from the reference -----------------------------------------------------------------
+# --- longer trips, from the other planner -------------------------------------------------------------
 LINE_END = [1, 40, 5, 44] + EUROPE[4:]
 computed("a line of forty junctions", 0, line(40), order(LINE_END), label_words=320, length=488)
 computed("a line of forty junctions, a label short", 12, line(40), order(LINE_END), label_words=319, length=488)

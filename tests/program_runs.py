@@ -4,7 +4,7 @@
     tests/program_runs.py             run target/bin/plan, which `rt check plan` builds
     tests/program_runs.py PROGRAM     run another build of it
 
-The expected text is written by hand from document 01, or given by the brute-force reference.
+The expected text is written by hand from document 01, or given by the other planner.
 """
 import pathlib
 import random
@@ -12,7 +12,7 @@ import subprocess
 import sys
 import tempfile
 
-import reference
+import other_planner
 from formats import EUROPE, T_LISTING, Map, chained, map_t, order
 from made_trips import line, practice_map, small_trip
 
@@ -22,11 +22,26 @@ SMALL_TRIPS = 1000
 FOLDER = object()  # in place of a file's bytes: a folder stands there, which cannot be read as a file
 T = map_t().bytes()
 RUNS = []
+LISTED = []  # the runs whose text the other planner gives
 
 
 def run(title, expected, trunk=None, orders=None):
     """A file that is None is missing."""
     RUNS.append((title, expected, trunk, orders))
+
+
+def listed_run(title, trunk, orders, asked=None, part=""):
+    """The other planner gives the text, which must hold this part. It may be `asked` with another order of the same text."""
+    LISTED.append((title, trunk, orders, asked or orders, part))
+
+
+def practice_run(title, target, near, part):
+    """The program has a far latest, and the other planner, which lists every reachable state, is asked with a near one.
+
+    What it plans, or finds full, under the near latest is so under the far one too: every move raises the clock, so up
+    to the near latest both have the same reachable states, and only states that rank no higher than the answer count.
+    """
+    listed_run(title, PRACTICE, order(w1=target), order(w1=target, w3=near), part)
 
 
 def with_names(length):
@@ -40,14 +55,6 @@ def bad_road():
     m = map_t()
     m.roads[1][3] = 131
     return m.bytes()
-
-
-def reference_run(title, first_word, trunk, orders):
-    """The reference gives the text; how it starts is written by hand."""
-    expected = reference.listing(trunk, orders)
-    if not expected.startswith(first_word):
-        sys.exit("%s: the reference prints %s" % (title, expected))
-    run(title, expected, trunk, orders)
 
 
 run("map T", T_LISTING, T, order())
@@ -94,16 +101,25 @@ LINE_LISTING = "".join("drive %d x %d\n" % (k, k) for k in range(1, 1600)) + "ar
 run("1,600 labels and 1,599 moves", LINE_LISTING, line(1600), order(w1=1600))
 run("1,601 labels", "refused 12 1600\n", line(1601), order(w1=1601))
 PRACTICE = practice_map(1000)
-for target in (5, 17, 500, 1000):
-    reference_run("a practice map of 1,000 junctions, 1 to %d" % target, "drive", PRACTICE, order(w1=target))
-reference_run("a practice map, exactly 1,600 labels", "drive", PRACTICE, order(w1=297))
-reference_run("a practice map, 2,064 labels", "refused 12 1600\n", PRACTICE, order(w1=112))
+for target, arrival in ((5, 8273), (17, 26561), (500, 22296), (1000, 19234)):
+    practice_run("a practice map of 1,000 junctions, 1 to %d" % target, target, arrival, "arrive %d " % arrival)
+practice_run("a practice map, exactly 1,600 labels", 297, 28810, "labels 1600\n")
+practice_run("a practice map, 2,064 labels", 112, 32091, "refused 12 1600\n")
 
-# --- many small maps, beside the reference -------------------------------------------------------------
+# --- many small maps, beside the other planner -----------------------------------------------------------
 DICE = random.Random(561)
 for k in range(SMALL_TRIPS):
     trunk, orders = small_trip(DICE)
-    run("small trip %d" % k, reference.listing(trunk, orders), trunk, orders)
+    listed_run("small trip %d" % k, trunk, orders)
+
+
+def listed_runs():
+    """The other planner is asked for all of them at once."""
+    texts = other_planner.listings([(trunk, asked) for _, trunk, _, asked, _ in LISTED])
+    for (title, trunk, orders, _, part), text in zip(LISTED, texts, strict=True):
+        if part not in text:
+            sys.exit("%s: the other planner lists %s" % (title, text))
+        yield title, text, trunk, orders
 
 
 def lay(folder, name, content):
@@ -130,15 +146,16 @@ def main():
     program = pathlib.Path(sys.argv[1] if len(sys.argv) > 1 else BUILT).resolve()
     if not program.is_file():
         sys.exit("%s is not there: build it with `rt check plan`" % program)
+    runs = RUNS + list(listed_runs())
     faults = 0
-    for title, expected, trunk, orders in RUNS:
+    for title, expected, trunk, orders in runs:
         found = fault(program, expected, trunk, orders)
         if found is not None:
             faults += 1
             print("%s: %s" % (title, found[:600]))
     if faults:
-        sys.exit("%d of %d runs of the program differ" % (faults, len(RUNS)))
-    print("%d runs of the program print what they must" % len(RUNS))
+        sys.exit("%d of %d runs of the program differ" % (faults, len(runs)))
+    print("%d runs of the program print what they must" % len(runs))
 
 
 main()

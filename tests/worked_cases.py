@@ -3,6 +3,8 @@
 
     tests/worked_cases.py           write the files below crates/trials and crates/plan
     tests/worked_cases.py --check   fail where a stored file differs from what would be written
+
+Both ask the other planner, which must be built, and fail where it does not agree with a case.
 """
 import pathlib
 import sys
