@@ -1,7 +1,7 @@
 #!/usr/bin/env bash
 # Every test of the project. Needs the Rattle toolchain (`rt`), python3, a C compiler and cargo; no network.
-# The last line is 'N passed, 0 failed'.
-set -eu
+# The last line is 'N passed, 0 failed' where every step has passed, and names the step that failed otherwise.
+set -euo pipefail
 cd "$(dirname "$0")"
 for tool in rt python3 cc cargo; do
     if ! command -v "$tool" >/dev/null; then
@@ -9,11 +9,46 @@ for tool in rt python3 cc cargo; do
         exit 1
     fi
 done
+
+step() {
+    doing=$*
+    echo "== $doing"
+}
+
+end() {
+    local status=$?
+    rm -f "$said"
+    [ "$status" -eq 0 ] || echo "test.sh: FAILED: $doing"
+}
+
+said=$(mktemp)
+trap end EXIT
+
+step "Format of the sources"
 rt fmt --check
+
+step "Other planner: build and self-test"
+# Not below target/, which `rt ci` removes.
 cargo build --quiet --release --offline --manifest-path tests/other/Cargo.toml --target-dir tests/other/target
+tests/other/target/release/other self-test | tail -n 1
+
+step "Stored worked cases"
 python3 tests/worked_cases.py --check
-examples/run.sh
-tests/differential/run.sh
-rt check plan >/dev/null
+
+step "Proofs from nothing, wrong programs and test programs (the longest step)"
+rt ci | tee "$said"
+
+step "Library for C and Rust, of the crates just proved"
+rt staticlib trunk
+
+step "Examples and the Rust package"
+examples/run.sh --built
+
+step "Library beside the other planner"
+tests/differential/run.sh --built
+
+step "Program on files"
 python3 tests/program_runs.py
-rt ci
+
+step "Verdict of the proofs"
+tail -n 1 "$said" | grep -x '[1-9][0-9]* passed, 0 failed'

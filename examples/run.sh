@@ -1,10 +1,11 @@
 #!/usr/bin/env bash
-# Proves and builds the static library, builds and runs the C example, tests the Rust wrapper and runs its examples.
+# Proves and builds the static library, builds and runs the C example, tests the Rust wrapper and runs its examples:
+# examples/run.sh [--built]. With --built the library is taken as it stands in target/staticlib.
 # The examples for map T must print examples/plan_map_t.expected; a map made, planned, kept and audited must be map T
 # with its plan. Needs rt, a C compiler and cargo; no network.
-set -eu
+set -euo pipefail
 cd "$(dirname "$0")/.."
-rt staticlib trunk >/dev/null
+if [ "${1:-}" != --built ]; then rt staticlib trunk >&2; fi
 
 mkdir -p target/examples
 cc -std=c11 -O2 -Wall -Wextra -Iinclude examples/plan_map_t.c target/staticlib/libtrunk.a -o target/examples/plan_map_t

@@ -1,12 +1,9 @@
 #!/usr/bin/env bash
-# Holds the proved library against the other planner: tests/differential/run.sh [SEED COUNT]
-# Needs rt and cargo, no network.
+# Proves and builds the library and holds it against the other planner: tests/differential/run.sh [--built] [SEED COUNT]
+# With --built the library is taken as it stands in target/staticlib. Needs rt and cargo, no network.
 set -eu
 cd "$(dirname "$0")/../.."
-rt staticlib trunk >/dev/null
+if [ "${1:-}" = --built ]; then shift; else rt staticlib trunk >&2; fi
 export CARGO_TARGET_DIR="$PWD/target/rust"
-cargo build --quiet --release --offline --manifest-path tests/other/Cargo.toml
 cargo build --quiet --release --offline --manifest-path tests/differential/Cargo.toml
-target/rust/release/other self-test | tail -n 1
-target/rust/release/other trials <crates/trials/stdin | diff - crates/trials/stdout
 target/rust/release/differential "$@"
