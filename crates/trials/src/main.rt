@@ -11,6 +11,9 @@ use libc::STDIN_FILENO;
 use libc::STDOUT_FILENO;
 use replies::Reply;
 
+// Room for all cases. Cases that fill it may have lost their end, and are refused.
+const CASE_BYTES: usize = 262144;
+
 // Refusals below this number are given before the search, and leave the label space as it was.
 const FIRST_OF_SEARCH: u32 = 12;
 
@@ -263,6 +266,10 @@ fn run_case(cases: &mut [u8], n: usize, at: usize, space: &mut [u8], labels: &mu
 
 fn run_all(cases: &mut [u8], space: &mut [u8], labels: &mut [u32]) {
     let n = io::read_full(STDIN_FILENO, cases);
+    if n == cases.len() {
+        print(b"too many cases\n");
+        return;
+    }
     let mut at = 0;
     while at < n {
         at = run_case(cases, n, at, space, labels);
@@ -270,7 +277,7 @@ fn run_all(cases: &mut [u8], space: &mut [u8], labels: &mut [u32]) {
 }
 
 fn main() {
-    let mut cases = [0u8; 131072];
+    let mut cases = [0u8; CASE_BYTES];
     let mut sheet = [0u8; 1024];
     let mut labels = [0u32; 4096];
     run_all(&mut cases, &mut sheet, &mut labels);
