@@ -1,6 +1,6 @@
--- The user's three demands as theorems over the operations' contracts. Assumes nothing.
--- The user's words stand in quotes above what says them. The contracts: `Planned` (planner), `Retimed` (retiming), `ChainMaking` (mapedit) and,
--- for the other operations, the equation of what is told.
+-- The user's three demands as theorems over the operations' contracts, and what document 01 says beside them. Assumes nothing.
+-- The user's words, and document 01's, stand in quotes above what says them. The contracts: `Planned` (planner), `Retimed` (retiming),
+-- `ChainMaking` (mapedit) and, for the other operations, the equation of what is told.
 use mathlib.Core.Path.{_≡_, refl, sym, ap, _∙_}
 use mathlib.Core.Bool.{Bool, true, false}
 use mathlib.Core.List.{List, [], _∷_, _++_}
@@ -8,7 +8,7 @@ use mathlib.Core.Logic.{_↔_}
 use Prim.Native.Nat.{ℕ, _≤_, _<_}
 use native.Mathlib.Omega.{arith}
 use borrow.Author.Tests.{ne-eqb}
-use lib.ListN.{length}
+use lib.ListN.{length, getD}
 use Rattle.replies.specs.declared.Check.{Check}
 use Rattle.replies.specs.declared.NameReply.{NameReply}
 use Rattle.replies.specs.declared.Planning.{Planning}
@@ -17,7 +17,7 @@ use Rattle.replies.specs.declared.Timing.{Timing}
 use Rattle.replies.specs.First.{_at_, firstOf}
 use Rattle.replies.specs.Told.{succeeded, refusedAt, toldCheck, toldName, toldTiming, toldPlan}
 use Rattle.replies.specs.Pick.{pick}
-use Rattle.mapcheck.specs.MapCheck.{mapTests, chainingTests}
+use Rattle.mapcheck.specs.MapCheck.{mapTests, chainingTests, AcceptedMap}
 use Rattle.mapedit.specs.Name.{unknownName, nameReply}
 use Rattle.mapedit.specs.Chaining.{chained, chainingReply, afterChaining, ChainMaking}
 use Rattle.driving.specs.Order.{orderOf, orderTests}
@@ -37,9 +37,11 @@ use Rattle.planner.specs.Planned.{Planned}
 use Rattle.demands.specs.Refused.{RepliesBy}
 use Rattle.demands.specs.Counted.{CountsLabels}
 use Rattle.demands.specs.Runs.{AcceptedRun, Plans, SaysFull, SaysNoRoad, HoldsJourney, TimedAfresh}
-use Rattle.demands.proofs.Refusals.{replies-by, map-numbered, order-numbered, chaining-numbered, name-numbered, plan-numbered, retiming-numbered, audit-numbered}
+use Rattle.demands.specs.LinkBytes.{LinkByte}
+use Rattle.demands.proofs.Refusals.{replies-by, by-number, map-numbered, order-numbered, chaining-numbered, name-numbered, plan-numbered, retiming-numbered, audit-numbered}
 use Rattle.demands.proofs.Counted.{counts-labels}
 use Rattle.demands.proofs.Said.{accepted-by, full-said, full-place, no-road-said, no-road-place, plans-said, short-said}
+use Rattle.demands.proofs.Chained.{length-chained, chained-passes, chained-else}
 use Rattle.demands.proofs.Written.{wrote, heading-written, holds-journey, none-earlier}
 use Rattle.demands.proofs.Afresh.{Afresh, afresh}
 
@@ -75,6 +77,18 @@ module _ {map map′ : List ℕ} {answer : Check} (made : ChainMaking map map′
   pub chain-making-leaves : ¬ (toldCheck answer .number ≡ 0) → map′ ≡ map
   unfolding afterChaining
   chain-making-leaves refused = made .bytes ∙ ap (λ (b : Bool). pick b (chained map) map) (ne-eqb _ _ (λ e. refused (ap (λ (r : Reply). r .number) (made .reply) ∙ e)))
+
+  -- "nothing else changes": the map keeps its length, and every byte that is none of first or next
+  pub chain-making-length : length map′ ≡ length map
+  chain-making-length = by-number (toldCheck answer .number) (length-chained made) (λ refused. ap length (chain-making-leaves refused))
+
+  pub chain-making-keeps : (p : ℕ) → ¬ LinkByte map p → getD map′ p 0 ≡ getD map p 0
+  chain-making-keeps p no-link =
+      by-number (toldCheck answer .number) (λ done. chained-else made done p no-link) (λ refused. ap (λ (s : List ℕ). getD s p 0) (chain-making-leaves refused))
+
+  -- "and the map passes."
+  pub chain-making-passes : toldCheck answer .number ≡ 0 → AcceptedMap map′
+  chain-making-passes = chained-passes made
 
 module _ {map order sheet out out′ : List ℕ} {answer : Timing} (retimed : Retimed map order sheet out out′ answer) where
   pub retiming-replies : RepliesBy (retimingTests map order sheet out (timing false map (orderOf order) sheet)) (toldTiming answer)

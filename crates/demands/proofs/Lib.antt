@@ -3,6 +3,7 @@
 pub mod Refusals
 pub mod Counted
 pub mod Said
+pub mod Chained
 pub mod Written
 pub mod Afresh
 pub mod Demands

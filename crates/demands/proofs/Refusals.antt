@@ -3,7 +3,7 @@ use mathlib.Core.Path.{_≡_, refl, sym, ap, _∙_}
 use mathlib.Core.Bool.{Bool, true, false, not}
 use mathlib.Core.List.{List, [], _∷_, _++_}
 use mathlib.Core.Option.{Option, none, some}
-use Prim.Native.Nat.{ℕ, _≤_}
+use Prim.Native.Nat.{ℕ, zero, suc, _≤_}
 use native.Mathlib.Omega.{arith}
 use lib.Dec.{T, T-not, lit≤}
 use lib.ListN.{length}
@@ -62,6 +62,11 @@ replies-by {reply} ts success is-0 from-1 is =
         λ all. ap (λ (r : Reply). r .number) (is ∙ none-at-all ts success all) ∙ is-0,
       );
     }
+
+-- a reply's number is 0 or not
+pub by-number : {A : Type 0} (number : ℕ) → (number ≡ 0 → A) → (¬ (number ≡ 0) → A) → A
+by-number zero done else = done refl
+by-number (suc n) done else = else (λ e. omega arith)
 
 -- The operations' lists number from 1.
 numbered-both : (ts us : List Test) → Numbered ts → Numbered us → Numbered (ts ++ us)
