@@ -8,7 +8,7 @@ use mathlib.Core.Logic.{_↔_}
 use Prim.Native.Nat.{ℕ, _≤_, _<_}
 use native.Mathlib.Omega.{arith}
 use borrow.Author.Tests.{ne-eqb}
-use lib.ListN.{length, getD}
+use lib.ListN.{length, drop, getD}
 use Rattle.replies.specs.declared.Check.{Check}
 use Rattle.replies.specs.declared.NameReply.{NameReply}
 use Rattle.replies.specs.declared.Planning.{Planning}
@@ -25,7 +25,7 @@ use Rattle.moves.specs.declared.State.{State}
 use Rattle.moves.specs.declared.Move.{Move}
 use Rattle.moves.specs.Trip.{Trip}
 use Rattle.sheets.specs.declared.Heading.{Heading}
-use Rattle.sheets.specs.Sheet.{headingOf}
+use Rattle.sheets.specs.Sheet.{headingOf, sheetNeeded}
 use Rattle.retiming.specs.Retiming.{movesOn, timing, retimingTests, auditTests, auditReply, Retimed}
 use Rattle.journeys.specs.Journeys.{Journey}
 use Rattle.journeys.specs.Labels.{labelCount}
@@ -42,7 +42,7 @@ use Rattle.demands.proofs.Refusals.{replies-by, by-number, map-numbered
 use Rattle.demands.proofs.Counted.{counts-labels}
 use Rattle.demands.proofs.Said.{accepted-by, full-said, full-place, no-road-said, no-road-place, plans-said, short-said}
 use Rattle.demands.proofs.Chained.{length-chained, chained-passes, chained-else}
-use Rattle.demands.proofs.Written.{wrote, heading-written, holds-journey, none-earlier}
+use Rattle.demands.proofs.Written.{Wrote, wrote, rest-written, length-written, heading-written, holds-journey, none-earlier}
 use Rattle.demands.proofs.Afresh.{Afresh, afresh}
 
 -- DEMAND 1.
@@ -113,6 +113,17 @@ module _ {map order words words′ sheet sheet′ : List ℕ} {answer : Planning
   pub planning-leaves : ¬ Plans answer → sheet′ ≡ sheet
   planning-leaves refused = run .bytes ∙ sheet-refused map order fit sheet (λ e. refused (ap (λ (r : Reply). r .number) (run .reply) ∙ e))
 
+  wrote-plan : Plans answer → Wrote map order words sheet sheet′ answer
+  wrote-plan plans = wrote (accepted-by run (rw plans tt)) run plans
+
+  -- the sheet keeps its length
+  pub planning-length : length sheet′ ≡ length sheet
+  planning-length = by-number (toldPlan answer .number) (λ plans. length-written (wrote-plan plans)) (λ refused. ap length (planning-leaves refused))
+
+  -- "Bytes after 20 + 12M stay."
+  pub planning-keeps : Plans answer → drop (sheetNeeded (movesOn sheet′)) sheet′ ≡ drop (sheetNeeded (movesOn sheet′)) sheet
+  planning-keeps plans = rest-written (wrote-plan plans)
+
   -- "the label space changes only once a search has begun": refusals 1 to 11 leave every word of it
   pub planning-leaves-labels : 1 ≤ toldPlan answer .number → toldPlan answer .number ≤ 11 → words′ ≡ words
   planning-leaves-labels = run .kept
@@ -122,13 +133,11 @@ module _ {map order words words′ sheet sheet′ : List ℕ} {answer : Planning
   -- "A plan obeys the roads, car parks, limits and pauses of document 01": the records that the sheet's bytes hold are a legal journey with true
   -- figures, and its arrival is the reply's
   pub plan-obeys : Plans answer → (t : State) × HoldsJourney trip sheet′ t × (toldPlan answer .arrival ≡ t .clock .0)
-  plan-obeys plans =
-      let w = wrote (accepted-by run (rw plans tt)) run plans in
-      (w .state, holds-journey w, ap (λ (r : Reply). r .arrival) (w .told))
+  plan-obeys plans = let w = wrote-plan plans in (w .state, holds-journey w, ap (λ (r : Reply). r .arrival) (w .told))
 
   -- "and no legal journey arrives earlier."
   pub plan-earliest : Plans answer → (ms : List Move) (t : State) → Journey trip ms t → toldPlan answer .arrival ≤ t .clock .0
-  plan-earliest plans ms t journey = none-earlier (wrote (accepted-by run (rw plans tt)) run plans) journey
+  plan-earliest plans ms t journey = none-earlier (wrote-plan plans) journey
 
   module _ (accepted : AcceptedRun map order) where
     -- "For an accepted map and order, 'full' is said exactly when the label count of document 01 exceeds the label space;"
@@ -156,9 +165,7 @@ module _ {map order words words′ sheet sheet′ : List ℕ} {answer : Planning
 
   -- "The N that planning reports is that label count.": in the reply of a plan, in its sheet, and with "no road"
   pub count-planned : Plans answer → (toldPlan answer .place ≡ labelCount trip) × (headingOf sheet′ .labels ≡ labelCount trip)
-  count-planned plans =
-      let w = wrote (accepted-by run (rw plans tt)) run plans in
-      (ap (λ (r : Reply). r .place) (w .told), ap (λ (h : Heading). h .labels) (heading-written w))
+  count-planned plans = let w = wrote-plan plans in (ap (λ (r : Reply). r .place) (w .told), ap (λ (h : Heading). h .labels) (heading-written w))
 
   pub count-no-road : SaysNoRoad answer → toldPlan answer .place ≡ labelCount trip
   count-no-road no-road = no-road-place (accepted-by run (rw no-road tt)) run no-road

@@ -4,6 +4,7 @@ pub mod Refusals
 pub mod Counted
 pub mod Said
 pub mod Chained
+pub mod Decoded
 pub mod Written
 pub mod Afresh
 pub mod Demands

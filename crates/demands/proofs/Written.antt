@@ -4,7 +4,7 @@ use mathlib.Core.List.{List, map}
 use mathlib.Core.Option.{Option, none, some}
 use Prim.Native.Nat.{ℕ, _≤_}
 use native.Mathlib.Omega.{arith}
-use lib.ListN.{length, take}
+use lib.ListN.{length, take, drop}
 use Rattle.replies.specs.declared.Reply.{Reply}
 use Rattle.replies.specs.declared.Planning.{Planning}
 use Rattle.replies.specs.Told.{succeeded, toldPlan}
@@ -14,7 +14,7 @@ use Rattle.moves.specs.Trip.{Trip}
 use Rattle.moves.proofs.Rising.{SoundTrip}
 use Rattle.sheets.specs.declared.Heading.{Heading}
 use Rattle.sheets.specs.Sheet.{headingOf, rowsOf, sheetNeeded, sheetAfter, tornSheet}
-use Rattle.sheets.proofs.Reading.{length-after, heading-back, rows-back, prefix-heading, prefix-rows, length-prefix, prefix-untorn}
+use Rattle.sheets.proofs.Reading.{length-after, prefix-heading, prefix-rows, length-prefix, prefix-untorn}
 use Rattle.retiming.specs.Walk.{moveOf}
 use Rattle.retiming.specs.Retiming.{movesOn}
 use Rattle.journeys.specs.Journeys.{startIn, Journey}
@@ -28,6 +28,7 @@ use Rattle.journeys.proofs.Planning.{accepted-sound, planned-facts, plan-few, s
 use Rattle.planner.specs.Planned.{Planned}
 use Rattle.demands.specs.Runs.{AcceptedRun, Plans, movesRead, HoldsJourney, headerAndRecords}
 use Rattle.demands.proofs.Said.{told}
+use Rattle.demands.proofs.Decoded.{heading-read, count-read, rows-read, rest-stays}
 
 -- the answer's state, the reply and the sheet of a run that plans
 pub record Wrote (bytes order words sheet sheet′ : List ℕ) (answer : Planning) : Type 0 where
@@ -66,17 +67,23 @@ module _ {bytes order words sheet sheet′ : List ℕ} {answer : Planning} (w : 
   abbrev heading : Heading
   heading = headingAt trip (w .state)
 
+  count : heading .moves ≡ length (planRows trip)
+  count = sym (plan-rows-length trip)
+
   pub heading-written : headingOf sheet′ ≡ heading
-  heading-written = ap headingOf (w .written) ∙ heading-back heading (planRows trip) sheet
+  heading-written = heading-read heading (planRows trip) sheet count (w .written)
 
   count-written : movesOn sheet′ ≡ length (planRows trip)
-  count-written = ap (λ (h : Heading). h .moves) heading-written ∙ sym (plan-rows-length trip)
+  count-written = count-read heading (planRows trip) sheet count (w .written)
 
   rows-written : rowsOf sheet′ 1 (movesOn sheet′) ≡ planRows trip
-  rows-written =
-      ap (rowsOf sheet′ 1) count-written
-      ∙ ap (λ (s : List ℕ). rowsOf s 1 (length (planRows trip))) (w .written)
-      ∙ rows-back heading (planRows trip) sheet
+  rows-written = rows-read heading (planRows trip) sheet count (w .written)
+
+  pub rest-written : drop (sheetNeeded (movesOn sheet′)) sheet′ ≡ drop (sheetNeeded (movesOn sheet′)) sheet
+  rest-written = rest-stays heading (planRows trip) sheet count (w .written)
+
+  pub length-written : length sheet′ ≡ length sheet
+  length-written = ap length (w .written) ∙ length-after heading (planRows trip) sheet (omega (arith, w .long, count))
 
   pub moves-written : movesRead sheet′ ≡ planMoves trip
   unfolding planRows
@@ -87,7 +94,7 @@ module _ {bytes order words sheet sheet′ : List ℕ} {answer : Planning} (w : 
   unfolding planRows
   holds-journey =
       record {
-        long = omega (arith, ap length (w .written), length-after heading (planRows trip) sheet (omega (arith, w .long, plan-rows-length trip)), w .long, count-written, plan-rows-length trip);
+        long = omega (arith, length-written, w .long, count-written, count);
         journey = rw moves-written (plan-journey trip (w .sound) (w .answered));
         clocks = rows-written ∙ ap (rowsFrom trip (startIn trip)) (sym moves-written);
         arrival = ap (λ (h : Heading). h .arrival) heading-written;
