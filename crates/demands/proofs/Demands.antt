@@ -8,6 +8,7 @@ use mathlib.Core.Logic.{_↔_}
 use Prim.Native.Nat.{ℕ, _≤_, _<_}
 use native.Mathlib.Omega.{arith}
 use borrow.Author.Tests.{ne-eqb}
+use lib.Dec.{T}
 use lib.ListN.{length, drop, getD}
 use Rattle.replies.specs.declared.Check.{Check}
 use Rattle.replies.specs.declared.NameReply.{NameReply}
@@ -28,6 +29,7 @@ use Rattle.sheets.specs.declared.Heading.{Heading}
 use Rattle.sheets.specs.Sheet.{headingOf, sheetNeeded}
 use Rattle.retiming.specs.Retiming.{movesOn, timing, retimingTests, auditTests, auditReply, Retimed}
 use Rattle.journeys.specs.Journeys.{Journey}
+use Rattle.journeys.specs.Ranked.{ranksNoHigher}
 use Rattle.journeys.specs.Labels.{labelCount}
 use Rattle.journeys.specs.Plan.{bytesNeeded}
 use Rattle.journeys.specs.Planning.{labelsThatFit, tripFrom, planTests, planReply}
@@ -42,7 +44,7 @@ use Rattle.demands.proofs.Refusals.{replies-by, by-number, map-numbered
 use Rattle.demands.proofs.Counted.{counts-labels}
 use Rattle.demands.proofs.Said.{accepted-by, full-said, full-place, no-road-said, no-road-place, plans-said, short-said}
 use Rattle.demands.proofs.Chained.{length-chained, chained-passes, chained-else}
-use Rattle.demands.proofs.Written.{Wrote, wrote, rest-written, length-written, heading-written, holds-journey, none-earlier}
+use Rattle.demands.proofs.Written.{Wrote, wrote, rest-written, length-written, heading-written, holds-journey, none-earlier, none-lower}
 use Rattle.demands.proofs.Afresh.{Afresh, afresh}
 
 -- DEMAND 1.
@@ -138,6 +140,10 @@ module _ {map order words words′ sheet sheet′ : List ℕ} {answer : Planning
   -- "and no legal journey arrives earlier."
   pub plan-earliest : Plans answer → (ms : List Move) (t : State) → Journey trip ms t → toldPlan answer .arrival ≤ t .clock .0
   plan-earliest plans ms t journey = none-earlier (wrote-plan plans) journey
+
+  -- "The answer's state is the lowest-ranked reachable one at target.": no legal journey ends in a state that ranks below the end of the sheet's
+  pub plan-lowest : Plans answer → (t : State) → HoldsJourney trip sheet′ t → (ms : List Move) (u : State) → Journey trip ms u → T (ranksNoHigher t u)
+  plan-lowest plans t held ms u journey = none-lower (wrote-plan plans) held journey
 
   module _ (accepted : AcceptedRun map order) where
     -- "For an accepted map and order, 'full' is said exactly when the label count of document 01 exceeds the label space;"

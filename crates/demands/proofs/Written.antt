@@ -4,6 +4,7 @@ use mathlib.Core.List.{List, map}
 use mathlib.Core.Option.{Option, none, some}
 use Prim.Native.Nat.{ℕ, _≤_}
 use native.Mathlib.Omega.{arith}
+use lib.Dec.{T}
 use lib.ListN.{length, take, drop}
 use Rattle.replies.specs.declared.Reply.{Reply}
 use Rattle.replies.specs.declared.Planning.{Planning}
@@ -18,10 +19,12 @@ use Rattle.sheets.proofs.Reading.{length-after, prefix-heading, prefix-rows, le
 use Rattle.retiming.specs.Walk.{moveOf}
 use Rattle.retiming.specs.Retiming.{movesOn}
 use Rattle.journeys.specs.Journeys.{startIn, Journey}
+use Rattle.journeys.specs.Ranked.{ranksNoHigher}
 use Rattle.journeys.specs.Labels.{answerIn, labelCount}
 use Rattle.journeys.specs.Plan.{planMoves, bytesNeeded, rowsFrom, planRows, headingAt, plannedSheet}
 use Rattle.journeys.specs.Planning.{labelsThatFit, tripFrom}
-use Rattle.journeys.proofs.Labels.{answer-earliest}
+use Rattle.journeys.proofs.Journeys.{leads-one}
+use Rattle.journeys.proofs.Labels.{answer-lowest, answer-earliest}
 use Rattle.journeys.proofs.Plan.{plan-journey}
 use Rattle.journeys.proofs.Rows.{rows-moves, plan-rows-length}
 use Rattle.journeys.proofs.Planning.{accepted-sound, planned-facts, plan-few, sheet-planned}
@@ -105,6 +108,11 @@ module _ {bytes order words sheet sheet′ : List ℕ} {answer : Planning} (w : 
   -- no legal journey arrives earlier
   pub none-earlier : {ms : List Move} {t : State} → Journey trip ms t → toldPlan answer .arrival ≤ t .clock .0
   none-earlier journey = omega (arith, ap (λ (r : Reply). r .arrival) (w .told), answer-earliest trip (w .sound) (w .answered) journey)
+
+  -- the journey that the sheet holds leads to the answer's state alone, and no legal journey ends in one that ranks below
+  pub none-lower : {t u : State} {ms : List Move} → HoldsJourney trip sheet′ t → Journey trip ms u → T (ranksNoHigher t u)
+  none-lower held journey =
+      rw (leads-one trip (held .journey .leads) (holds-journey .journey .leads)) (answer-lowest trip (w .sound) (w .answered) journey)
 
   -- the header and the M records alone
   kept-is : headerAndRecords sheet′ ≡ take (sheetNeeded (length (planRows trip))) (sheetAfter heading (planRows trip) sheet)
