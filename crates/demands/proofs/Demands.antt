@@ -5,7 +5,7 @@ use mathlib.Core.Path.{_≡_, refl, sym, ap, _∙_}
 use mathlib.Core.Bool.{Bool, true, false}
 use mathlib.Core.List.{List, [], _∷_, _++_}
 use mathlib.Core.Logic.{_↔_}
-use Prim.Native.Nat.{ℕ, _≤_, _<_}
+use Prim.Native.Nat.{ℕ, _+_, _≤_, _<_}
 use native.Mathlib.Omega.{arith}
 use borrow.Author.Tests.{ne-eqb}
 use lib.Dec.{T}
@@ -24,21 +24,22 @@ use Rattle.mapedit.specs.Chaining.{chained, chainingReply, afterChaining, Chain
 use Rattle.driving.specs.Order.{orderOf, orderTests}
 use Rattle.moves.specs.declared.State.{State}
 use Rattle.moves.specs.declared.Move.{Move}
-use Rattle.moves.specs.Trip.{Trip}
+use Rattle.moves.specs.Trip.{Trip, tripOf}
 use Rattle.sheets.specs.declared.Heading.{Heading}
 use Rattle.sheets.specs.Sheet.{headingOf, sheetNeeded}
 use Rattle.retiming.specs.Retiming.{movesOn, timing, retimingTests, auditTests, auditReply, Retimed}
-use Rattle.journeys.specs.Journeys.{Journey}
+use Rattle.journeys.specs.Journeys.{Journey, totalSeconds}
 use Rattle.journeys.specs.Ranked.{ranksNoHigher}
 use Rattle.journeys.specs.Labels.{labelCount}
 use Rattle.journeys.specs.Plan.{bytesNeeded}
 use Rattle.journeys.specs.Planning.{labelsThatFit, tripFrom, planTests, planReply}
 use Rattle.journeys.specs.Compared.{EasierRun}
+use Rattle.journeys.proofs.Journeys.{leads-clock}
 use Rattle.journeys.proofs.Planning.{accepted-sound, sheet-refused, reply-any-fit, sheet-any-fit}
 use Rattle.planner.specs.Planned.{Planned}
 use Rattle.demands.specs.Refused.{RepliesBy}
 use Rattle.demands.specs.Counted.{CountsLabels}
-use Rattle.demands.specs.Runs.{AcceptedRun, Plans, SaysFull, SaysNoRoad, HoldsJourney, TimedAfresh}
+use Rattle.demands.specs.Runs.{AcceptedRun, Plans, SaysFull, SaysNoRoad, movesRead, HoldsJourney, TimedAfresh}
 use Rattle.demands.specs.LinkBytes.{LinkByte}
 use Rattle.demands.proofs.Refusals.{replies-by, by-number, map-numbered, order-numbered, chaining-numbered, name-numbered, plan-numbered, retiming-numbered, audit-numbered}
 use Rattle.demands.proofs.Counted.{counts-labels}
@@ -136,6 +137,11 @@ module _ {map order words words′ sheet sheet′ : List ℕ} {answer : Planning
   -- figures, and its arrival is the reply's
   pub plan-obeys : Plans answer → (t : State) × HoldsJourney trip sheet′ t × (toldPlan answer .arrival ≡ t .clock .0)
   plan-obeys plans = let w = wrote-plan plans in (w .state, holds-journey w, ap (λ (r : Reply). r .arrival) (w .told))
+
+  -- "Arrival less departure is the sum of its road times, breaks and rests."
+  pub plan-seconds : Plans answer → toldPlan answer .arrival ≡ orderOf order .departure .0 + totalSeconds trip (movesRead sheet′)
+  unfolding tripOf
+  plan-seconds plans = plan-obeys plans .2 ∙ leads-clock trip (plan-obeys plans .1 .journey .leads)
 
   -- "and no legal journey arrives earlier."
   pub plan-earliest : Plans answer → (ms : List Move) (t : State) → Journey trip ms t → toldPlan answer .arrival ≤ t .clock .0
