@@ -39,12 +39,13 @@ use Rattle.journeys.proofs.Planning.{accepted-sound, sheet-refused, reply-any-f
 use Rattle.planner.specs.Planned.{Planned}
 use Rattle.demands.specs.Refused.{RepliesBy}
 use Rattle.demands.specs.Counted.{CountsLabels}
-use Rattle.demands.specs.Runs.{AcceptedRun, Plans, SaysFull, SaysNoRoad, movesRead, HoldsJourney, TimedAfresh}
+use Rattle.demands.specs.Runs.{AcceptedRun, Plans, SaysFull, SaysNoRoad, movesRead, HoldsJourney, headerAndRecords, TimedAfresh}
 use Rattle.demands.specs.LinkBytes.{LinkByte}
 use Rattle.demands.proofs.Refusals.{replies-by, by-number, map-numbered, order-numbered, chaining-numbered, name-numbered, plan-numbered, retiming-numbered, audit-numbered}
 use Rattle.demands.proofs.Counted.{counts-labels}
 use Rattle.demands.proofs.Said.{accepted-by, full-said, full-place, no-road-said, no-road-place, plans-said, short-said}
 use Rattle.demands.proofs.Chained.{length-chained, chained-passes, chained-else}
+use Rattle.demands.proofs.Retimed.{state, same-moves, same-labels, rest-retimed, length-retimed, told-retimed, retimed-holds, retimed-passes}
 use Rattle.demands.proofs.Written.{Wrote, wrote, rest-written, length-written, heading-written, holds-journey, none-earlier, none-lower}
 use Rattle.demands.proofs.Afresh.{Afresh, afresh}
 
@@ -100,6 +101,31 @@ module _ {map order sheet out out′ : List ℕ} {answer : Timing} (retimed : Re
   -- "a refusal leaves the sheet's bytes untouched"
   pub retiming-leaves : ¬ (toldTiming answer .number ≡ 0) → out′ ≡ out
   retiming-leaves refused = retimed .bytes ∙ rw (ne-eqb _ _ (λ e. refused (ap (λ (r : Reply). r .number) (retimed .reply) ∙ e))) refl
+
+  -- the other sheet keeps its length
+  pub retiming-length : length out′ ≡ length out
+  retiming-length = by-number (toldTiming answer .number) (length-retimed retimed) (λ refused. ap length (retiming-leaves refused))
+
+  module _ (done : toldTiming answer .number ≡ 0) where
+    -- "writes the same moves with true figures, N copied, to another sheet": its bytes hold a legal journey, whose arrival is the reply's
+    pub retiming-writes : (t : State) × HoldsJourney (tripFrom map order) out′ t × (toldTiming answer .arrival ≡ t .clock .0)
+    retiming-writes = (state retimed done, retimed-holds retimed done, ap (λ (r : Reply). r .arrival) (told-retimed retimed done))
+
+    pub retiming-copies : (movesRead out′ ≡ movesRead sheet) × (headingOf out′ .labels ≡ headingOf sheet .labels)
+    retiming-copies = (same-moves retimed done, same-labels retimed done)
+
+    -- "Bytes after 20 + 12M stay."
+    pub retiming-keeps : drop (sheetNeeded (movesOn out′)) out′ ≡ drop (sheetNeeded (movesOn out′)) out
+    retiming-keeps = rest-retimed retimed done
+
+    -- "Arrival less departure is the sum of its road times, breaks and rests."
+    pub retiming-seconds : toldTiming answer .arrival ≡ orderOf order .departure .0 + totalSeconds (tripFrom map order) (movesRead out′)
+    unfolding tripOf
+    retiming-seconds = retiming-writes .2 ∙ leads-clock (tripFrom map order) (retiming-writes .1 .journey .leads)
+
+    -- its header and M records pass the audit, with the same reply
+    pub retiming-audited : (audited : Timing) → toldTiming audited ≡ auditReply map order (headerAndRecords out′) → toldTiming audited ≡ toldTiming answer
+    retiming-audited audited told = told ∙ retimed-passes retimed done
 
 module _ {map order words words′ sheet sheet′ : List ℕ} {answer : Planning} (run : Planned map order words words′ sheet sheet′ answer) where
   abbrev trip : Trip
