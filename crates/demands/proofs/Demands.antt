@@ -46,6 +46,7 @@ use Rattle.demands.proofs.Counted.{counts-labels}
 use Rattle.demands.proofs.Said.{accepted-by, full-said, full-place, no-road-said, no-road-place, plans-said, short-said}
 use Rattle.demands.proofs.Chained.{length-chained, chained-passes, chained-else}
 use Rattle.demands.proofs.Retimed.{state, same-moves, same-labels, rest-retimed, length-retimed, told-retimed, retimed-holds, retimed-passes}
+use Rattle.demands.proofs.Audited.{reached-by, audited-holds, audited-told}
 use Rattle.demands.proofs.Written.{Wrote, wrote, rest-written, length-written, heading-written, holds-journey, none-earlier, none-lower}
 use Rattle.demands.proofs.Afresh.{Afresh, afresh}
 
@@ -71,6 +72,19 @@ name-replies map junction answer told = replies-by (mapTests map ++ (20 at unkno
 pub audit-replies : (map order sheet : List ℕ) (answer : Timing) → toldTiming answer ≡ auditReply map order sheet →
     RepliesBy (auditTests map order sheet (timing true map (orderOf order) sheet)) (toldTiming answer)
 audit-replies map order sheet answer told = replies-by (auditTests map order sheet (timing true map (orderOf order) sheet)) _ refl (audit-numbered map order sheet) told
+
+-- "Audit: retiming without writing, comparing clocks and header": the bytes of a sheet that passes hold a legal journey with true figures, whose
+-- arrival is the reply's
+module _ (map order sheet : List ℕ) (answer : Timing) (told : toldTiming answer ≡ auditReply map order sheet) (done : toldTiming answer .number ≡ 0) where
+  pub audit-holds : (t : State) × HoldsJourney (tripFrom map order) sheet t × (toldTiming answer .arrival ≡ t .clock .0)
+  audit-holds =
+      let passed = rw told at done in
+      (reached-by map order sheet passed, audited-holds map order sheet passed, ap (λ (r : Reply). r .arrival) (told ∙ audited-told map order sheet passed))
+
+  -- "Arrival less departure is the sum of its road times, breaks and rests."
+  pub audit-seconds : toldTiming answer .arrival ≡ orderOf order .departure .0 + totalSeconds (tripFrom map order) (movesRead sheet)
+  unfolding tripOf
+  audit-seconds = audit-holds .2 ∙ leads-clock (tripFrom map order) (audit-holds .1 .journey .leads)
 
 module _ {map map′ : List ℕ} {answer : Check} (made : ChainMaking map map′ answer) where
   pub chain-making-replies : RepliesBy (chainingTests map) (toldCheck answer)

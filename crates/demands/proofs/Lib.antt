@@ -6,6 +6,7 @@ pub mod Said
 pub mod Chained
 pub mod Decoded
 pub mod Retimed
+pub mod Audited
 pub mod Written
 pub mod Afresh
 pub mod Demands

@@ -1,0 +1,130 @@
+-- What an audit that passes says of the sheet's bytes. Assumes nothing.
+use mathlib.Core.Path.{_≡_, refl, sym, ap, _∙_}
+use mathlib.Core.Bool.{true, false}
+use mathlib.Core.List.{List, [], _∷_, _++_}
+use mathlib.Core.Logic.{⊎-elim}
+use mathlib.Core.Option.{none}
+use Prim.Native.Nat.{ℕ, _+_, _≤_}
+use native.Mathlib.Omega.{arith}
+use borrow.Author.Tests.{eqb-true, not-false}
+use lib.Dec.{eqb}
+use lib.ListN.{length}
+use Rattle.booleans.proofs.Tests.{cases, or-false}
+use Rattle.replies.specs.First.{_at_, NoneFits}
+use Rattle.replies.specs.Told.{succeeded}
+use Rattle.replies.proofs.First.{none-fitted, none-at-all}
+use Rattle.mapcheck.proofs.Counts.{placed-none}
+use Rattle.driving.specs.Order.{orderOf}
+use Rattle.moves.specs.declared.State.{State}
+use Rattle.moves.specs.declared.Step.the-variants.{Moved}
+use Rattle.moves.specs.Trip.{Trip, tripOf}
+use Rattle.moves.specs.Moves.{stepped}
+use Rattle.moves.specs.Opened.{runTests}
+use Rattle.sheets.specs.declared.Row.{Row}
+use Rattle.sheets.specs.Sheet.{headingOf, rowsOf, sheetNeeded}
+use Rattle.sheets.proofs.Reading.{none-whole}
+use Rattle.retiming.specs.Walk.{Walk, refused, reached, moveOf, trueRow, walk, moveTest, stray, arrivalReached}
+use Rattle.retiming.specs.Retiming.{movesOn, timing, sheetTests, falseFigures, falseHeader, auditTests, auditReply}
+use Rattle.retiming.proofs.Walking.{OneRow, stops, passes, one-row, walk-end, walk-moved}
+use Rattle.retiming.proofs.Rewriting.{cut}
+use Rattle.journeys.specs.Journeys.{startIn, atTarget}
+use Rattle.journeys.specs.Planning.{tripFrom}
+use Rattle.demands.specs.Runs.{movesRead, HoldsJourney}
+use Rattle.demands.proofs.Refusals.{audit-numbered}
+use Rattle.demands.proofs.Retimed.{never-reached, none-behind, Passed, walk-passed}
+
+-- where clocks are compared, the records that a walk passes over have their true clocks already
+walk-same : (trip : Trip) (k : ℕ) (s : State) (rs : List Row) {l : State} {ys : List Row} → walk true trip k s rs ≡ reached l ys → rs ≡ ys
+walk-same trip k s [] {l} {ys} e = cc (walk-end true trip k s)
+walk-same trip k s (row ∷ rs) {l} {ys} e = by (one-row true trip k s row) (λ t zs p. walk-same trip (k + 1) t rs p)
+  where
+    own-clock : (t : State) → stepped trip s (moveOf row) ≡ Moved t → row .clock ≡ t .clock .0
+    own-clock t moved =
+        ⊎-elim
+        (λ (same : eqb (row .clock) (t .clock .0) ≡ true). eqb-true _ _ same)
+        (λ (other : eqb (row .clock) (t .clock .0) ≡ false).
+        let stopped : walk true trip k s (row ∷ rs) ≡ refused 18 k = walk-moved true trip k s row rs moved ∙ rw other refl in
+        absurd (never-reached (sym stopped ∙ e)))
+        (cases (eqb (row .clock) (t .clock .0)))
+
+    by : OneRow true trip k s row → ((t : State) (zs : List Row) → walk true trip (k + 1) t rs ≡ reached l zs → rs ≡ zs) → row ∷ rs ≡ ys
+    by (stops number late always) on = absurd (never-reached (sym (always rs) ∙ e))
+    by (passes t moved always) on =
+        let first = cut (trueRow row t) (walk true trip (k + 1) t rs) l ys (sym (always rs) ∙ e) in
+        ap (λ (c : ℕ). record { kind = row .kind; number = row .number; clock = c } ∷ rs) (own-clock t moved)
+        ∙ ap (λ (zs : List Row). trueRow row t ∷ zs) (on t (first .zs) (first .rest))
+        ∙ sym (first .is)
+
+-- a walk that no refusal met
+record Ended (w : Walk) : Type 0 where
+  state : State
+  rows : List Row
+  is : w ≡ reached state rows
+
+ended : (w : Walk) → moveTest w .place ≡ none → Ended w
+ended (refused number move) e = absurd (let z : _≡_ {A = ℕ} 0 1 = cc in omega arith)
+ended (reached s rows) e = record { state = s; rows = rows; is = refl }
+
+module _ (bytes order sheet : List ℕ) (number-0 : auditReply bytes order sheet .number ≡ 0) where
+  abbrev trip : Trip
+  trip = tripFrom bytes order
+
+  abbrev walked : Walk
+  walked = timing true bytes (orderOf order) sheet
+
+  none-fit : NoneFits (auditTests bytes order sheet walked)
+  none-fit = none-fitted (auditTests bytes order sheet walked) _ (audit-numbered bytes order sheet) number-0
+
+  late : NoneFits (sheetTests (orderOf order) sheet walked ++ (18 at falseHeader (headingOf sheet) walked) ∷ [])
+  late = none-behind (runTests bytes order) (sheetTests (orderOf order) sheet walked ++ (18 at falseHeader (headingOf sheet) walked) ∷ []) none-fit
+
+  end : Ended walked
+  end = ended walked (late .1 .0)
+
+  -- where the moves lead
+  pub reached-by : State
+  reached-by = end .state
+
+  found : walked ≡ reached reached-by (end .rows)
+  unfolding reached-by
+  found = end .is
+
+  passed : Passed trip (startIn trip) (movesRead sheet) reached-by (end .rows)
+  unfolding timing tripOf
+  passed = walk-passed true trip 1 (startIn trip) (rowsOf sheet 1 (movesOn sheet)) found
+
+  own-rows : rowsOf sheet 1 (movesOn sheet) ≡ end .rows
+  unfolding timing
+  own-rows = walk-same _ 1 _ (rowsOf sheet 1 (movesOn sheet)) found
+
+  at-target : atTarget trip reached-by ≡ true
+  unfolding tripOf atTarget
+  at-target =
+      let straight : stray (orderOf order .target) (reached reached-by (end .rows)) ≡ none = rw found at (late .1 .1 .0) in
+      not-false (eqb (reached-by .junction) (orderOf order .target)) (placed-none (reached-by .junction) straight)
+
+  long : sheetNeeded (movesOn sheet) ≤ length sheet
+  long = omega (arith, none-whole sheet (late .0) .exact)
+
+  figures : falseFigures (headingOf sheet) reached-by ≡ false
+  figures =
+      let true-header : falseHeader (headingOf sheet) (reached reached-by (end .rows)) ≡ none = rw found at (late .1 .1 .1 .0) in
+      placed-none (movesOn sheet + 1) true-header
+
+  -- the sheet's bytes hold the legal journey, with its true figures
+  pub audited-holds : HoldsJourney trip sheet reached-by
+  unfolding falseFigures
+  audited-holds =
+      let first = or-false figures in
+      let rest = or-false (first .1) in
+      record {
+        long = long;
+        journey = record { leads = passed .leads; ends = at-target };
+        clocks = own-rows ∙ passed .clocks;
+        arrival = eqb-true _ _ (not-false _ (first .0));
+        spell = eqb-true _ _ (not-false _ (rest .0));
+        shift = eqb-true _ _ (not-false _ (rest .1));
+      }
+
+  pub audited-told : auditReply bytes order sheet ≡ succeeded (movesOn sheet) (reached-by .clock .0)
+  audited-told = none-at-all (auditTests bytes order sheet walked) _ none-fit ∙ ap (λ (w : Walk). succeeded (movesOn sheet) (arrivalReached w)) found
