@@ -13,33 +13,28 @@ use Rattle.replies.specs.declared.Planning.{Planning}
 use Rattle.replies.specs.declared.Refusal.{Refusal}
 use Rattle.replies.specs.declared.Reply.{Reply}
 use Rattle.replies.specs.declared.Timing.{Timing}
-use Rattle.replies.specs.First.{firstOf}
 use Rattle.replies.specs.Told.{succeeded, toldCheck, toldPlan, toldRefusal, toldTiming}
 use Rattle.replies.specs.Pick.{pick}
 use Rattle.replies.proofs.First.{refusal-number}
 use Rattle.roadmap.specs.Format.{nameLength}
-use Rattle.mapcheck.specs.MapCheck.{mapTests}
 use Rattle.mapedit.specs.Name.{nameReply, nameAt, namePart}
 use Rattle.mapedit.specs.Chaining.{ChainMaking}
 use Rattle.mapedit.proofs.Named.{length-named}
-use Rattle.retiming.specs.Retiming.{auditReply, Retimed}
+use Rattle.retiming.specs.Retiming.{Retimed}
 use Rattle.planner.specs.Planned.{Planned}
 use Rattle.trunk.specs.Written.{replyPut, partPut}
-use Rattle.trunk.specs.Calls.{MapCheckCall, PlanCall, RetimeCall, AuditCall, NameCall, ChainsCall, namePut}
+use Rattle.trunk.specs.Calls.{JudgingCall, PlanCall, RetimeCall, NameCall, ChainsCall, namePut}
 
 -- nothing is written
 module _ {reply : List ℕ} (short : length reply < 3) where
-  pub check-short : (map : List ℕ) → MapCheckCall map reply reply
-  check-short map = record { short = λ _. refl; told = λ room. absurd (omega arith) }
+  pub judging-short : (tells : Reply) → JudgingCall tells reply reply
+  judging-short tells = record { short = λ _. refl; told = λ room. absurd (omega arith) }
 
   pub plan-short : (map order words sheet : List ℕ) → PlanCall map order words words sheet sheet reply reply
   plan-short map order words sheet = record { short = λ _. (refl, refl, refl); told = λ room. absurd (omega arith) }
 
   pub retime-short : (map order sheet out : List ℕ) → RetimeCall map order sheet out out reply reply
   retime-short map order sheet out = record { short = λ _. (refl, refl); told = λ room. absurd (omega arith) }
-
-  pub audit-short : (map order sheet : List ℕ) → AuditCall map order sheet reply reply
-  audit-short map order sheet = record { short = λ _. refl; told = λ room. absurd (omega arith) }
 
   pub name-short : (map : List ℕ) (junction : ℕ) (part : List ℕ) → NameCall map junction reply reply part part
   name-short map junction part =
@@ -54,8 +49,8 @@ name-short-part short map junction reply =
 
 -- the reply is written
 module _ {reply reply′ : List ℕ} {told : Reply} (room : 3 ≤ length reply) (written : reply′ ≡ replyPut reply told) where
-  pub check-told : (map : List ℕ) → told ≡ firstOf (mapTests map) (succeeded 0 0) → MapCheckCall map reply reply′
-  check-told map is = record { short = λ short. absurd (omega arith); told = λ _. written ∙ ap (replyPut reply) is }
+  pub judging-told : {tells : Reply} → told ≡ tells → JudgingCall tells reply reply′
+  judging-told is = record { short = λ short. absurd (omega arith); told = λ _. written ∙ ap (replyPut reply) is }
 
   pub plan-told : {map order words words′ sheet sheet′ : List ℕ} {answer : Planning} → told ≡ toldPlan answer
       → Planned map order words words′ sheet sheet′ answer → PlanCall map order words words′ sheet sheet′ reply reply′
@@ -66,9 +61,6 @@ module _ {reply reply′ : List ℕ} {told : Reply} (room : 3 ≤ length reply) 
       → Retimed map order sheet out out′ answer → RetimeCall map order sheet out out′ reply reply′
   retime-told {answer = answer} is retimed =
       record { short = λ short. absurd (omega arith); told = λ _. (answer, retimed, written ∙ ap (replyPut reply) is) }
-
-  pub audit-told : (map order sheet : List ℕ) → told ≡ auditReply map order sheet → AuditCall map order sheet reply reply′
-  audit-told map order sheet is = record { short = λ short. absurd (omega arith); told = λ _. written ∙ ap (replyPut reply) is }
 
   pub name-told : {map : List ℕ} {junction : ℕ} {part part′ : List ℕ} → 2 ≤ length part → told ≡ nameReply map junction → part′ ≡ namePut map junction part
       → NameCall map junction reply reply′ part part′

@@ -7,6 +7,7 @@ use lib.Dec.{eqb}
 use lib.ListN.{length}
 use Rattle.replies.specs.declared.Check.{Check}
 use Rattle.replies.specs.declared.Planning.{Planning}
+use Rattle.replies.specs.declared.Reply.{Reply}
 use Rattle.replies.specs.declared.Timing.{Timing}
 use Rattle.replies.specs.First.{firstOf}
 use Rattle.replies.specs.Told.{succeeded, toldCheck, toldPlan, toldTiming}
@@ -19,9 +20,16 @@ use Rattle.retiming.specs.Retiming.{auditReply, Retimed}
 use Rattle.planner.specs.Planned.{Planned}
 use Rattle.trunk.specs.Written.{replyPut, partPut}
 
-pub record MapCheckCall (map reply reply′ : List ℕ) : Type 0 where
+-- a call that only judges: it writes nothing but what it tells
+pub record JudgingCall (tells : Reply) (reply reply′ : List ℕ) : Type 0 where
   pub short : length reply < 3 → reply′ ≡ reply
-  pub told : 3 ≤ length reply → reply′ ≡ replyPut reply (firstOf (mapTests map) (succeeded 0 0))
+  pub told : 3 ≤ length reply → reply′ ≡ replyPut reply tells
+
+abbrev pub MapCheckCall : List ℕ → List ℕ → List ℕ → Type 0
+MapCheckCall map reply reply′ = JudgingCall (firstOf (mapTests map) (succeeded 0 0)) reply reply′
+
+abbrev pub AuditCall : List ℕ → List ℕ → List ℕ → List ℕ → List ℕ → Type 0
+AuditCall map order sheet reply reply′ = JudgingCall (auditReply map order sheet) reply reply′
 
 pub record PlanCall (map order words words′ sheet sheet′ reply reply′ : List ℕ) : Type 0 where
   pub short : length reply < 3 → (words′ ≡ words) × (sheet′ ≡ sheet) × (reply′ ≡ reply)
@@ -32,10 +40,6 @@ pub record RetimeCall (map order sheet out out′ reply reply′ : List ℕ) : T
   pub short : length reply < 3 → (out′ ≡ out) × (reply′ ≡ reply)
   pub told : 3 ≤ length reply
       → (answer : Timing) × Retimed map order sheet out out′ answer × (reply′ ≡ replyPut reply (toldTiming answer))
-
-pub record AuditCall (map order sheet reply reply′ : List ℕ) : Type 0 where
-  pub short : length reply < 3 → reply′ ≡ reply
-  pub told : 3 ≤ length reply → reply′ ≡ replyPut reply (auditReply map order sheet)
 
 -- the name's place in the map and its length, 0 and 0 when refused
 abbrev pub namePut : List ℕ → ℕ → List ℕ → List ℕ

@@ -1,17 +1,17 @@
 use mathlib.Core.Path.{_∙_}
 use borrow.Author.Needs.{needs}
-use Rattle.trunk.proofs.Calls.{audit-short, audit-told}
+use Rattle.trunk.proofs.Calls.{judging-short, judging-told}
 use Rattle.trunk.proofs.trunk_audit.Statement.{statement}
 use Rattle.trunk.proofs.trunk_audit.Tie as tie
 
 returns : tie.Need-returns
-returns c = audit-short (c .if1 .taken) _ _ _
+returns c = judging-short (c .if1 .taken) _
 
 returns-2 : tie.Need-returns-2
 returns-2 c =
     let replied = c .before .before .before .before in
     let audited = replied .before in
-    audit-told (audited .before .if1 .left) (c .before .before .put-reply .ensures) _ _ _ (replied .reply .ensures ∙ audited .audit .ensures)
+    judging-told (audited .before .if1 .left) (c .before .before .put-reply .ensures) (replied .reply .ensures ∙ audited .audit .ensures)
 
 pub trunk-audit-spec : {M : Type 1} → statement M
 trunk-audit-spec =

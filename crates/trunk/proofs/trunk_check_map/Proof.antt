@@ -1,17 +1,17 @@
 use mathlib.Core.Path.{_∙_}
 use borrow.Author.Needs.{needs}
-use Rattle.trunk.proofs.Calls.{check-short, check-told}
+use Rattle.trunk.proofs.Calls.{judging-short, judging-told}
 use Rattle.trunk.proofs.trunk_check_map.Statement.{statement}
 use Rattle.trunk.proofs.trunk_check_map.Tie as tie
 
 returns : tie.Need-returns
-returns c = check-short (c .if1 .taken) _
+returns c = judging-short (c .if1 .taken) _
 
 returns-2 : tie.Need-returns-2
 returns-2 c =
     let replied = c .before .before .before .before in
     let checked = replied .before in
-    check-told (checked .before .if1 .left) (c .before .before .put-reply .ensures) _ (replied .reply .ensures ∙ checked .check-map .ensures)
+    judging-told (checked .before .if1 .left) (c .before .before .put-reply .ensures) (replied .reply .ensures ∙ checked .check-map .ensures)
 
 pub trunk-check-map-spec : {M : Type 1} → statement M
 trunk-check-map-spec =
