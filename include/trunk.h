@@ -64,6 +64,13 @@ enum trunk_number {
 void trunk_check_map(const uint8_t *map, size_t map_length,
                      uint64_t *reply, size_t reply_count);
 
+/* Order check: an order alone, as it is typed. Reads the order; `junctions` is J of the map that the order is meant for,
+ * word 1 of that map. Refuses 9 to 11; success is 0, 0, 0. Planning, retiming and audit judge the order likewise, after
+ * the map. */
+void trunk_check_order(const uint8_t *order, size_t order_length,
+                       uint32_t junctions,
+                       uint64_t *reply, size_t reply_count);
+
 /* Planning. Reads the map and the order; writes the plan to the sheet, and uses `words` as label space, eight words a
  * label, at most 1,000,000 labels. What the words hold before does not matter; afterwards they hold nothing of use.
  * Refuses 1 to 14; 1 to 11 leave the words as they were. Success is 0, the number of labels, the arrival: the sheet then

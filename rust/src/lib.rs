@@ -19,6 +19,13 @@ mod raw {
             reply: *mut u64,
             reply_count: usize,
         );
+        pub fn trunk_check_order(
+            order: *const u8,
+            order_length: usize,
+            junctions: u32,
+            reply: *mut u64,
+            reply_count: usize,
+        );
         pub fn trunk_plan(
             map: *const u8,
             map_length: usize,
@@ -226,6 +233,16 @@ fn replied(call: impl FnOnce(*mut u64, usize)) -> Result<Reply, Refused> {
 /// Map check: refusals 1 to 8.
 pub fn check_map(map: &[u8]) -> Result<(), Refused> {
     replied(|reply, count| unsafe { raw::trunk_check_map(map.as_ptr(), map.len(), reply, count) })?;
+    Ok(())
+}
+
+/// Order check: an order alone, as it is typed. Refusals 9 to 11.
+///
+/// `junctions` is J of the map that the order is meant for.
+pub fn check_order(order: &[u8], junctions: u32) -> Result<(), Refused> {
+    replied(|reply, count| unsafe {
+        raw::trunk_check_order(order.as_ptr(), order.len(), junctions, reply, count)
+    })?;
     Ok(())
 }
 

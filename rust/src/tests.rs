@@ -162,6 +162,19 @@ fn checks_and_chains_maps() {
 }
 
 #[test]
+fn checks_orders_without_a_map() {
+    let order = order_t(100_000);
+    assert_eq!(check_order(&order, 3), Ok(()));
+    assert_eq!(check_order(&order, u32::MAX), Ok(()));
+    assert_eq!(check_order(&[], 3), refused(Refusal::BadOrder, 0));
+    assert_eq!(check_order(&order[..39], 3), refused(Refusal::BadOrder, 39));
+    assert_eq!(check_order(&order, 2), refused(Refusal::BadTrip, 1));
+    assert_eq!(check_order(&order, 0), refused(Refusal::BadTrip, 0));
+    let bad_rules = bytes_of(&[0, 3, 0, 100_000, 0, 0, 16200, 2700, 32400, 0]);
+    assert_eq!(check_order(&bad_rules, 3), refused(Refusal::BadRules, 9));
+}
+
+#[test]
 fn numbers_are_document_01s() {
     for (i, refusal) in Refusal::ALL.into_iter().enumerate() {
         assert_eq!(refusal.number(), i as u64 + 1);
@@ -193,6 +206,18 @@ fn a_short_reply_changes_nothing() {
         )
     };
     assert_eq!((words, sheet, reply), ([7; 8 * 4], [0xEE; 56], [9; 2]));
+}
+
+/// The order check too: nothing where the reply is short, three numbers where it is longer.
+#[test]
+fn an_order_is_judged_into_the_reply_alone() {
+    let (order, mut reply) = (order_t(100_000), [9; 4]);
+    let mut judge = |room: usize| {
+        unsafe { raw::trunk_check_order(order.as_ptr(), order.len(), 2, reply.as_mut_ptr(), room) };
+        reply
+    };
+    assert_eq!(judge(2), [9; 4]);
+    assert_eq!(judge(4), [11, 1, 0, 9]);
 }
 
 /// A reply longer than three keeps its rest; a part shorter than two stops the call.

@@ -14,6 +14,7 @@ use Rattle.replies.specs.Told.{succeeded, toldCheck, toldPlan, toldTiming}
 use Rattle.replies.specs.Pick.{pick}
 use Rattle.roadmap.specs.Format.{nameLength}
 use Rattle.mapcheck.specs.MapCheck.{mapTests}
+use Rattle.driving.specs.Order.{orderTests}
 use Rattle.mapedit.specs.Name.{nameReply, nameAt}
 use Rattle.mapedit.specs.Chaining.{ChainMaking}
 use Rattle.retiming.specs.Retiming.{auditReply, Retimed}
@@ -27,6 +28,10 @@ pub record JudgingCall (tells : Reply) (reply reply′ : List ℕ) : Type 0 wher
 
 abbrev pub MapCheckCall : List ℕ → List ℕ → List ℕ → Type 0
 MapCheckCall map reply reply′ = JudgingCall (firstOf (mapTests map) (succeeded 0 0)) reply reply′
+
+-- `junctions` is J of the map that the order is meant for
+abbrev pub OrderCheckCall : List ℕ → ℕ → List ℕ → List ℕ → Type 0
+OrderCheckCall order junctions reply reply′ = JudgingCall (firstOf (orderTests junctions order) (succeeded 0 0)) reply reply′
 
 abbrev pub AuditCall : List ℕ → List ℕ → List ℕ → List ℕ → List ℕ → Type 0
 AuditCall map order sheet reply reply′ = JudgingCall (auditReply map order sheet) reply reply′

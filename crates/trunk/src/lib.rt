@@ -7,7 +7,7 @@ ghost use lib.ListN.{length};
 ghost use Rattle.replies.specs.Told.{toldName};
 ghost use Rattle.mapedit.specs.Name.{nameReply};
 ghost use Rattle.trunk.specs.Written.{replyPut};
-ghost use Rattle.trunk.specs.Calls.{MapCheckCall, PlanCall, RetimeCall, AuditCall, NameCall, ChainsCall, namePut};
+ghost use Rattle.trunk.specs.Calls.{MapCheckCall, OrderCheckCall, PlanCall, RetimeCall, AuditCall, NameCall, ChainsCall, namePut};
 use replies::NameReply;
 use replies::Reply;
 
@@ -34,6 +34,18 @@ pub extern "C" fn trunk_check_map(map: &[u8], reply: &mut [u64])
         return;
     }
     let told = mapcheck::check_map(map).reply();
+    put_reply(reply, told);
+}
+
+// Order check.
+#[no_mangle]
+pub extern "C" fn trunk_check_order(order: &[u8], junctions: u32, reply: &mut [u64])
+    ensures { λ _. ⌜ OrderCheckCall (now (order .entry)) junctions (now (reply .entry)) (now (reply .exit)) ⌝ }
+{
+    if reply.len() < REPLY_NUMBERS {
+        return;
+    }
+    let told = driving::check_order(order, junctions).reply();
     put_reply(reply, told);
 }
 
