@@ -6,6 +6,7 @@ use trunk::{Refused, Timed};
 
 pub const LIBRARY: Operations = Operations {
     check_map: |map| told(trunk::check_map(map), |()| (0, 0)),
+    check_order: |order, junctions| told(trunk::check_order(order, junctions), |()| (0, 0)),
     plan: |map, order, words, sheet| {
         told(trunk::plan(map, order, words, sheet), |planned| {
             (planned.labels, planned.arrival)

@@ -1,5 +1,7 @@
 //! The calls that a case is tried with.
 
+use std::collections::BTreeSet;
+
 use crate::make::orders::MOST_STATES;
 use crate::make::random::Random;
 use crate::make::{Case, Run};
@@ -37,6 +39,10 @@ pub fn probes(trusted: &Operations, case: &Case, random: &mut Random) -> Vec<Pro
     let mut probes = Vec::new();
     for map in case.spoilt_maps.iter().chain([&case.run.map]) {
         probes.extend(map_probes(random, map));
+    }
+    let junctions = junction_count(&case.run.map);
+    for order in case.orders() {
+        probes.extend(order_probes(order, junctions));
     }
     for timing in &case.timings {
         let run = Run {
@@ -81,9 +87,18 @@ fn scrambled_links(random: &mut Random, map: &[u8]) -> Vec<u8> {
     scrambled
 }
 
+/// J as the map has it, spoilt or not; 1 where it is too short to have one.
+fn junction_count(map: &[u8]) -> u64 {
+    if map.len() < 16 {
+        1
+    } else {
+        word(map, 4)
+    }
+}
+
 /// The last junction and the number after it are among those asked for.
 fn name_probes(random: &mut Random, map: &[u8]) -> Vec<Probe> {
-    let junctions = if map.len() < 16 { 1 } else { word(map, 4) };
+    let junctions = junction_count(map);
     let any = random.between(1, junctions.max(1));
     let probe = |number: u64| Probe::Name {
         map: map.to_vec(),
@@ -92,6 +107,22 @@ fn name_probes(random: &mut Random, map: &[u8]) -> Vec<Probe> {
     [0, any, junctions, junctions + 1, u64::MAX]
         .map(probe)
         .into()
+}
+
+/// The order check with the map's J, the order's source and its target as J, one less than each, and
+/// the least and the greatest J.
+fn order_probes(order: &[u8], junctions: u64) -> Vec<Probe> {
+    let ends = order.chunks_exact(4).take(2).map(|end| word(end, 0));
+    let counts: BTreeSet<u64> = ends
+        .chain([junctions])
+        .flat_map(|count| [count.saturating_sub(1), count])
+        .chain([0, u64::from(u32::MAX)])
+        .collect();
+    let probe = |count| Probe::CheckOrder {
+        order: order.to_vec(),
+        junctions: count as u32,
+    };
+    counts.into_iter().map(probe).collect()
 }
 
 fn plan_probes(trusted: &Operations, run: &Run, random: &mut Random) -> Vec<Probe> {

@@ -1,9 +1,9 @@
-//! The six operations as one value, so that any implementation can stand beside this one. A
-//! library's C functions need only six thin functions over slices and one `Operations` of them.
+//! Every operation as one value, so that any implementation can stand beside this one. A
+//! library's C functions need only thin functions over slices and one `Operations` of them.
 
 use crate::planning::{plan, Document};
 use crate::reply::Reply;
-use crate::{chains, mapcheck, names, retiming};
+use crate::{chains, mapcheck, names, order, retiming};
 
 /// The reply, and the name's offset in the map and its length; both 0 beside a refusal.
 pub type NameAnswer = (Reply, usize, usize);
@@ -17,6 +17,7 @@ pub type RetimeFunction = fn(&[u8], &[u8], &[u8], &mut [u8]) -> Reply;
 #[derive(Clone, Copy)]
 pub struct Operations {
     pub check_map: fn(map: &[u8]) -> Reply,
+    pub check_order: fn(order: &[u8], junctions: u32) -> Reply,
     pub plan: PlanFunction,
     pub retime: RetimeFunction,
     pub audit: fn(map: &[u8], order: &[u8], sheet: &[u8]) -> Reply,
@@ -27,6 +28,7 @@ pub struct Operations {
 /// Document 01's operations, as written here.
 pub const DOCUMENT: Operations = Operations {
     check_map: mapcheck::check_map,
+    check_order: order::check_order,
     plan: plan::<Document>,
     retime: retiming::retime,
     audit: retiming::audit,

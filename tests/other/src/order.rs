@@ -25,7 +25,8 @@ pub struct Order {
 }
 
 impl Order {
-    fn read(bytes: &[u8]) -> Order {
+    /// The order that forty bytes spell.
+    pub fn read(bytes: &[u8]) -> Order {
         let at = |number: usize| word(bytes, 4 * number);
         Order {
             source: at(0),
@@ -61,7 +62,7 @@ impl Order {
     }
 
     /// Each rule on words 6 to 9: the word it is charged to, and whether it holds.
-    fn rules(&self) -> [(u64, bool); 6] {
+    pub fn rules(&self) -> [(u64, bool); 6] {
         [
             (6, 1 <= self.spell_limit),
             (8, self.spell_limit <= self.shift_limit),
@@ -73,7 +74,7 @@ impl Order {
     }
 
     /// Each rule on words 0 to 5, likewise. A starting figure above its limit is charged itself.
-    fn trip(&self, junctions: u64) -> [(u64, bool); 7] {
+    pub fn trip(&self, junctions: u64) -> [(u64, bool); 7] {
         [
             (0, (1..=junctions).contains(&self.source)),
             (1, (1..=junctions).contains(&self.target)),
@@ -84,6 +85,10 @@ impl Order {
             (5, self.shift <= self.shift_limit),
         ]
     }
+}
+
+pub fn check_order(bytes: &[u8], junctions: u32) -> Reply {
+    told(accepted_order(bytes, u64::from(junctions)).map(|_| Reply::success(0, 0)))
 }
 
 /// The order, unless one of refusals 9 to 11 fits.
@@ -97,7 +102,8 @@ pub fn accepted_order(bytes: &[u8], junctions: u64) -> Result<Order, Reply> {
     Ok(order)
 }
 
-fn refuse_broken(number: u64, rules: &[(u64, bool)]) -> Result<(), Reply> {
+/// Refuses with the first word that a broken rule is charged to.
+pub fn refuse_broken(number: u64, rules: &[(u64, bool)]) -> Result<(), Reply> {
     let broken = rules.iter().filter(|(_, holds)| !holds);
     match broken.map(|(charged, _)| *charged).min() {
         Some(first) => Err(Reply::refused(number, first)),

@@ -11,6 +11,10 @@ pub enum Probe {
     CheckMap {
         map: Vec<u8>,
     },
+    CheckOrder {
+        order: Vec<u8>,
+        junctions: u32,
+    },
     Plan {
         run: Run,
         labels: Vec<u32>,
@@ -63,6 +67,9 @@ impl Answer {
 pub fn answer(operations: &Operations, probe: &Probe) -> Answer {
     match probe {
         Probe::CheckMap { map } => Answer::of((operations.check_map)(map)),
+        Probe::CheckOrder { order, junctions } => {
+            Answer::of((operations.check_order)(order, *junctions))
+        }
         Probe::Plan { run, labels, sheet } => answer_plan(operations, run, labels, sheet),
         Probe::Retime { run, sheet, out } => {
             let mut lent = Lent::new(out, 0xA5);

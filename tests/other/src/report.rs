@@ -10,6 +10,7 @@ impl Probe {
     pub fn operation(&self) -> &'static str {
         match self {
             Probe::CheckMap { .. } => "check map",
+            Probe::CheckOrder { .. } => "check order",
             Probe::Plan { .. } => "plan",
             Probe::Retime { .. } => "retime",
             Probe::Audit { .. } => "audit",
@@ -23,6 +24,10 @@ impl Probe {
         let mut text = format!("operation: {}\n", self.operation());
         match self {
             Probe::CheckMap { map } | Probe::MakeChains { map } => show(&mut text, "map", map),
+            Probe::CheckOrder { order, junctions } => {
+                show(&mut text, "order", order);
+                let _ = writeln!(text, "junctions: {junctions}");
+            }
             Probe::Plan { run, labels, sheet } => {
                 show_run(&mut text, run);
                 let _ = writeln!(text, "label words: {}", labels.len());

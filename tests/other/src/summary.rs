@@ -13,8 +13,9 @@ use crate::probe::{answer, Answer};
 use crate::sheet::{sheet_bytes, Sheet};
 use crate::words::word;
 
-const OPERATIONS: [&str; 6] = [
+const OPERATIONS: [&str; 7] = [
     "check map",
+    "check order",
     "plan",
     "retime",
     "audit",

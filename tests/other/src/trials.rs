@@ -2,8 +2,7 @@
 //! program's format.
 
 use crate::operations::DOCUMENT;
-use crate::order::accepted_order;
-use crate::reply::{told, Reply};
+use crate::reply::Reply;
 use crate::report::hexadecimal;
 use crate::words::word;
 
@@ -26,9 +25,7 @@ fn answer_next(stored: &mut &[u8]) -> String {
     let [map, order, sheet] = [map, order, sheet].map(|length| take(stored, length));
     let answer = match kind {
         b'm' => line((DOCUMENT.check_map)(map)),
-        b'o' => line(told(
-            accepted_order(order, number as u64).map(|_| Reply::success(0, 0)),
-        )),
+        b'o' => line((DOCUMENT.check_order)(order, number as u32)),
         b'n' => {
             let (reply, offset, length) = (DOCUMENT.name)(map, number as u32);
             let name = String::from_utf8_lossy(&map[offset..offset + length]);

@@ -5,6 +5,7 @@ use crate::mapcheck::check_map;
 use crate::moves::{Move, State, Trip, BREAK, DRIVE, REST};
 use crate::names::name;
 use crate::operations::{NameAnswer, Operations, PlanFunction, RetimeFunction, DOCUMENT};
+use crate::order::{check_order, refuse_broken, Order, ORDER_BYTES};
 use crate::planning::{labels_that_fit, plan, Document, Planner};
 use crate::reply::*;
 use crate::retiming::{audit, retime};
@@ -44,6 +45,7 @@ pub fn wrong_copies() -> Vec<WrongCopy> {
     };
     let mut copies: Vec<WrongCopy> = planning.map(with_plan).into();
     copies.extend(other_copies());
+    copies.extend(check_copies());
     copies
 }
 
@@ -77,10 +79,22 @@ fn other_copies() -> Vec<WrongCopy> {
                 ..DOCUMENT
             },
         },
+    ]
+}
+
+fn check_copies() -> [WrongCopy; 2] {
+    [
         WrongCopy {
             name: "misfit-tells-length-seen",
             operations: Operations {
                 check_map: misfit_tells_length_seen,
+                ..DOCUMENT
+            },
+        },
+        WrongCopy {
+            name: "order-rules-after-trip",
+            operations: Operations {
+                check_order: order_rules_after_trip,
                 ..DOCUMENT
             },
         },
@@ -322,4 +336,14 @@ fn misfit_tells_length_seen(map: &[u8]) -> Reply {
         MISFIT => Reply::refused(MISFIT, map.len() as u64),
         _ => reply,
     }
+}
+
+fn order_rules_after_trip(bytes: &[u8], junctions: u32) -> Reply {
+    if bytes.len() != ORDER_BYTES {
+        return check_order(bytes, junctions);
+    }
+    let order = Order::read(bytes);
+    let judged = refuse_broken(BAD_TRIP, &order.trip(u64::from(junctions)))
+        .and_then(|()| refuse_broken(BAD_RULES, &order.rules()));
+    told(judged.map(|()| Reply::success(0, 0)))
 }

@@ -20,7 +20,7 @@ pub struct Run {
     pub order: Vec<u8>,
 }
 
-/// What all six operations are tried on.
+/// What every operation is tried on.
 #[derive(Clone, Debug)]
 pub struct Case {
     pub run: Run,
@@ -37,6 +37,12 @@ impl Case {
         [Some(&self.run), self.easier.as_ref()]
             .into_iter()
             .flatten()
+    }
+
+    /// Of its runs and of its sheets, some of them spoilt.
+    pub fn orders(&self) -> impl Iterator<Item = &Vec<u8>> {
+        let of_runs = self.runs().map(|run| &run.order);
+        of_runs.chain(self.timings.iter().map(|timing| &timing.order))
     }
 }
 

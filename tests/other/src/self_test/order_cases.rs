@@ -1,13 +1,11 @@
 //! The order's charges, each from the European order on map T.
 
 use super::fixtures::*;
-use crate::order::accepted_order;
+use crate::operations::DOCUMENT;
 
 fn check(bytes: &[u8]) -> (u64, u64) {
-    match accepted_order(bytes, 3) {
-        Ok(_) => (0, 0),
-        Err(reply) => (reply.number, reply.place),
-    }
+    let reply = (DOCUMENT.check_order)(bytes, 3);
+    (reply.number, reply.place)
 }
 
 /// The reply to the trial order with some words replaced.
