@@ -6,6 +6,7 @@
 
 The expected text is written by hand from document 01, or given by the other planner.
 """
+import os
 import pathlib
 import random
 import subprocess
@@ -17,6 +18,8 @@ from formats import EUROPE, T_LISTING, Map, chained, map_t, order
 from made_trips import line, practice_map, small_trip
 
 BUILT = pathlib.Path(__file__).resolve().parent.parent / "target" / "bin" / "plan"
+FAILING_READS = pathlib.Path(__file__).resolve().with_name("failing_reads.c")
+BUILT_READS = BUILT.parent.parent / "failing_reads.so"
 MOST_BYTES = 65536
 SMALL_TRIPS = 1000
 FOLDER = object()  # in place of a file's bytes: a folder stands there, which cannot be read as a file
@@ -25,9 +28,14 @@ RUNS = []
 LISTED = []  # the runs whose text the other planner gives
 
 
-def run(title, expected, trunk=None, orders=None):
-    """A file that is None is missing."""
-    RUNS.append((title, expected, trunk, orders))
+def run(title, expected, trunk=None, orders=None, reads={}):
+    """A file that is None is missing. `reads` is what the program finds in its environment."""
+    RUNS.append((title, expected, trunk, orders, reads))
+
+
+def read_run(title, expected, name, steps, trunk=T, orders=order()):
+    """The reads of the file of that name go by the steps; -1 is one that fails."""
+    run(title, expected, trunk, orders, {"LD_PRELOAD": str(BUILT_READS), "READ_FILE": name, "READ_STEPS": steps})
 
 
 def listed_run(title, trunk, orders, asked=None, part=""):
@@ -74,6 +82,21 @@ run("an order of 5,000 bytes", "refused 9 5000\n", T, b"x" * 5000)
 run("bad rules", "refused 10 9\n", T, order(w9=0))
 run("bad trip", "refused 11 0\n", T, order(w0=4))
 
+# --- reads that are short or fail ----------------------------------------------------------------------
+# One failure makes the file empty, whatever the reads after it say. No file does so when asked; any row of short, failed
+# and whole reads can be made, since the program takes `read` from the C library when it starts.
+read_run("a map in short reads", T_LISTING, "map", "1 2 3 100")
+read_run("an order in short reads", T_LISTING, "order", "39 1")
+read_run("a map whose first read fails", "refused 1 0\n", "map", "-1")
+read_run("an order whose first read fails", "refused 9 0\n", "order", "-1")
+read_run("a map whose second read fails", "refused 1 0\n", "map", "100 -1")
+read_run("a map whose every read fails after the first", "refused 1 0\n", "map", "100 -1 -1 -1")
+read_run("a map of which map T is read before a failure", "refused 1 0\n", "map", "133 -1", T + b"x")
+read_run("an order of which 40 bytes are read before a failure", "refused 9 0\n", "order", "40 -1", orders=order() + b"x")
+read_run("a map that fails where its end would be told", "refused 1 0\n", "map", "133 -1")
+read_run("a map that fails one byte before it is too big", "refused 1 0\n", "map", "65536 -1", with_names(MOST_BYTES + 1))
+read_run("a map that would fail after it is too big", "too big\n", "map", "65537 -1", with_names(MOST_BYTES + 2))
+
 # --- 64 KiB --------------------------------------------------------------------------------------------
 run("map and order of 65,536 bytes", T_LISTING, with_names(MOST_BYTES - 40), order())
 run("a map one byte longer", "too big\n", with_names(MOST_BYTES - 39), order())
@@ -119,7 +142,7 @@ def listed_runs():
     for (title, trunk, orders, _, part), text in zip(LISTED, texts, strict=True):
         if part not in text:
             sys.exit("%s: the other planner lists %s" % (title, text))
-        yield title, text, trunk, orders
+        yield title, text, trunk, orders, {}
 
 
 def lay(folder, name, content):
@@ -129,13 +152,13 @@ def lay(folder, name, content):
         (folder / name).write_bytes(content)
 
 
-def fault(program, expected, trunk, orders):
+def fault(program, expected, trunk, orders, reads):
     """What is wrong with a run, or None."""
     with tempfile.TemporaryDirectory() as name:
         folder = pathlib.Path(name)
         lay(folder, "map", trunk)
         lay(folder, "order", orders)
-        done = subprocess.run([program], cwd=folder, stdin=subprocess.DEVNULL, capture_output=True)
+        done = subprocess.run([program], cwd=folder, stdin=subprocess.DEVNULL, capture_output=True, env={**os.environ, **reads})
     if done.returncode != 0 or done.stderr:
         return "it ended with status %d and said %r" % (done.returncode, done.stderr)
     if done.stdout != expected.encode():
@@ -146,10 +169,11 @@ def main():
     program = pathlib.Path(sys.argv[1] if len(sys.argv) > 1 else BUILT).resolve()
     if not program.is_file():
         sys.exit("%s is not there: build it with `rt check plan`" % program)
+    subprocess.run(["cc", "-O2", "-Wall", "-Wextra", "-shared", "-fPIC", FAILING_READS, "-o", BUILT_READS], check=True)
     runs = RUNS + list(listed_runs())
     faults = 0
-    for title, expected, trunk, orders in runs:
-        found = fault(program, expected, trunk, orders)
+    for title, expected, trunk, orders, reads in runs:
+        found = fault(program, expected, trunk, orders, reads)
         if found is not None:
             faults += 1
             print("%s: %s" % (title, found[:600]))

@@ -175,8 +175,28 @@ fn plan_and_print(map: &[u8], order: &[u8]) {
     print_plan(map, order, &sheet);
 }
 
+// Reads until the file ends or the space is full, and returns how many bytes there are. One read
+// that fails makes it none: the bytes before it, or after it, are not the file.
+fn read_whole(file: i32, space: &mut [u8]) -> usize
+    ensures { λ r. ⌜ Counts r (now (space .exit)) ⌝ }
+{
+    let mut done = 0;
+    while done < space.len() {
+        let got = libc::read(file, &mut space[done..]);
+        if got < 0 {
+            return 0;
+        }
+        let more = io::count(got, &space[done..]);
+        if more == 0 {
+            return done;
+        }
+        done += more;
+    }
+    done
+}
+
 // Puts a file's bytes at the start of the space and returns how many there are, at most as many as
-// fit. A file that cannot be read counts as empty: one more read tells a failure from the file's end.
+// fit. A file that cannot be opened or read counts as empty.
 fn read_file(name: &[u8], space: &mut [u8]) -> usize
     ensures { λ r. ⌜ Counts r (now (space .exit)) ⌝ }
 {
@@ -184,13 +204,8 @@ fn read_file(name: &[u8], space: &mut [u8]) -> usize
     if file < 0 {
         return 0;
     }
-    let count = io::read_full(file, space);
-    let mut next = [0u8; 1];
-    let more = libc::read(file, &mut next);
+    let count = read_whole(file, space);
     libc::close(file);
-    if more < 0 {
-        return 0;
-    }
     count
 }
 
