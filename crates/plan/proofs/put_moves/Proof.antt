@@ -1,6 +1,5 @@
 -- The records are read in turn, each within the sheet. Assumes nothing.
 use Prim.Native.Nat.{_+_, _-_, _≤_}
-use lib.ListN.{length}
 use borrow.Author.Needs.{needs}
 use Rattle.plan.proofs.put_moves.Statement.{statement}
 use Rattle.plan.proofs.put_moves.Tie as tie
