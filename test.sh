@@ -24,8 +24,9 @@ end() {
 said=$(mktemp)
 trap end EXIT
 
-step "Format of the sources"
+step "Format of the sources, and the list of definitions to believe"
 rt fmt --check
+python3 tests/believed.py --check
 
 step "Other planner: build and self-test"
 # Not below target/, which `rt ci` removes.
