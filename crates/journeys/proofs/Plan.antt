@@ -18,12 +18,12 @@ use Rattle.theory.proofs.Sorting.{strict-at}
 use Rattle.theory.proofs.Lists.{mem-at, at-mem}
 use Rattle.theory.proofs.Dominance.{no-way-back}
 use Rattle.theory.proofs.Parents.{parent-at, parent-none, parent-before}
-use Rattle.journeys.specs.Journeys.{startIn, Leads, stay, Journey, totalSeconds, succs}
+use Rattle.journeys.specs.Journeys.{startIn, Leads, stay, Journey, succs}
 use Rattle.journeys.specs.Ranked.{sameState, ranksNoHigher}
 use Rattle.journeys.specs.Labels.{answerIn, labelsIn, labelCount, label, parentIn}
 use Rattle.journeys.specs.Plan.{moveTo, oneMove, movesBack, movesOf, planMoves, moveCount}
 use Rattle.journeys.proofs.Ranked.{rank-order, same-decides}
-use Rattle.journeys.proofs.Journeys.{leads-next, leads-clock}
+use Rattle.journeys.proofs.Journeys.{leads-next}
 use Rattle.journeys.proofs.Laws.{laws, clock-rises, all-reachable}
 use Rattle.journeys.proofs.Labels.{reached-reach, label-exactly, labels-rise, label-first, answer-ends, answer-is-label, home-answer, home-count}
 use Rattle.journeys.proofs.ParentMove.{move-some}
@@ -164,10 +164,6 @@ module _ (trip : Trip) (sound : SoundTrip trip) where
               (subst (λ (z : State). Leads trip (startIn trip) (movesAt trip (labelCount trip) (answer-at .0)) z) (sym (answer-at .2)) (found .leads));
           ends = answer-ends trip sound e;
         }
-
-    -- arrival less departure is the sum of its road times, breaks and rests
-    pub plan-seconds : a .clock .0 ≡ trip .order .departure .0 + totalSeconds trip (planMoves trip)
-    plan-seconds = leads-clock trip (plan-journey .leads)
 
     -- M < N
     pub plan-short : moveCount trip < labelCount trip

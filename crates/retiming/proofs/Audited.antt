@@ -1,4 +1,4 @@
--- What retiming wrote passes the audit, and arrival less departure is the sum of road times, breaks and rests. Assumes nothing.
+-- What retiming wrote passes the audit. Assumes nothing.
 use mathlib.Core.Path.{_≡_, _∙_, refl, sym, ap}
 use mathlib.Core.Bool.{Bool, true, false}
 use mathlib.Core.List.{List, [], _∷_, _++_}
@@ -14,17 +14,16 @@ use Rattle.replies.proofs.First.{none-fitted, none-of-both, none-at-all}
 use Rattle.driving.specs.Order.{orderOf}
 use Rattle.moves.specs.declared.State.{State}
 use Rattle.moves.specs.Trip.{Trip, tripOf}
-use Rattle.moves.specs.Moves.{startOf, moveSeconds}
+use Rattle.moves.specs.Moves.{startOf}
 use Rattle.moves.specs.Opened.{runTests}
-use Rattle.moves.proofs.Rising.{clock-after}
 use Rattle.sheets.specs.declared.Heading.{Heading}
 use Rattle.sheets.specs.declared.Row.{Row}
 use Rattle.sheets.specs.Sheet.{headingOf, rowsOf, sheetNeeded, sheetAfter, tornSheet}
 use Rattle.sheets.specs.Written.{Whole}
 use Rattle.sheets.proofs.Reading.{none-whole, length-rows-of, prefix-heading, prefix-rows, prefix-untorn}
-use Rattle.retiming.specs.Walk.{Walk, refused, reached, moveOf, trueRow, recorded, walk, moveTest, stray, arrivalReached, rowSeconds}
+use Rattle.retiming.specs.Walk.{Walk, refused, reached, trueRow, recorded, walk, moveTest, stray, arrivalReached}
 use Rattle.retiming.specs.Retiming.{movesOn, timing, sheetTests, retimingTests, retimingReply, retimedSheet, falseFigures, falseHeader, auditTests, auditReply}
-use Rattle.retiming.proofs.Walking.{OneRow, stops, passes, one-row, walk-end, walk-moved, moved-to}
+use Rattle.retiming.proofs.Walking.{OneRow, stops, passes, one-row, walk-end, walk-moved}
 use Rattle.retiming.proofs.Rewriting.{cut, walk-length}
 use Rattle.retiming.proofs.Retimes.{retimedHeading}
 
@@ -47,23 +46,6 @@ walk-again trip k s (row ∷ rs) {l} {ys} e = by (one-row false trip k s row) (�
         rw (rest .is)
         (walk-moved true trip k s (trueRow row t) (rest .zs) moved
         ∙ rw (eq-eqb (t .clock .0) (t .clock .0) refl) (ap (recorded (trueRow row t)) (go t (rest .zs) (rest .rest))))
-
--- the clock rises by the sum of the moves' times
-pub walk-seconds : (clocks : Bool) (trip : Trip) (k : ℕ) (s : State) (rs : List Row) {l : State} {ys : List Row} →
-    walk clocks trip k s rs ≡ reached l ys → l .clock .0 ≡ s .clock .0 + rowSeconds trip rs
-unfolding rowSeconds
-walk-seconds clocks trip k s [] {l} {ys} e =
-    let same : s ≡ l = cc (walk-end clocks trip k s) in
-    omega (arith, ap (λ (x : State). x .clock .0) same)
-walk-seconds clocks trip k s (row ∷ rs) {l} {ys} e = by (one-row clocks trip k s row) (λ t zs p. walk-seconds clocks trip (k + 1) t rs p)
-  where
-    by : OneRow clocks trip k s row → ((t : State) (zs : List Row) → walk clocks trip (k + 1) t rs ≡ reached l zs → l .clock .0 ≡ t .clock .0 + rowSeconds trip rs)
-        → l .clock .0 ≡ s .clock .0 + (moveSeconds trip (moveOf row) + rowSeconds trip rs)
-    by (stops number late always) go = absurd (never-reached (sym (always rs) ∙ e))
-    by (passes t moved always) go =
-        let rest = cut (trueRow row t) (walk clocks trip (k + 1) t rs) l ys (sym (always rs) ∙ e) in
-        let to = moved-to trip s (moveOf row) t moved in
-        omega (arith, go t (rest .zs) (rest .rest), ap (λ (x : State). x .clock .0) (to .result), clock-after trip s (moveOf row))
 
 -- the refusals that a walk meets number from 16
 pub walk-number : (clocks : Bool) (trip : Trip) (k : ℕ) (s : State) (rs : List Row) {number move : ℕ} → walk clocks trip k s rs ≡ refused number move → 16 ≤ number
@@ -194,8 +176,3 @@ module _ (map order sheet out : List ℕ) (number-0 : retimingReply map order sh
       ap (λ (w : Walk). firstOf (auditTests map order kept w) (succeeded (movesOn kept) (arrivalReached w))) audited-walk
       ∙ none-at-all (auditTests map order kept (reached reached-state true-rows)) _ (none-of-both (runTests map order) (sheetTests (orderOf order) kept (reached reached-state true-rows) ++ ((18 at falseHeader (headingOf kept) (reached reached-state true-rows)) ∷ [])) run-tests audit-tests)
       ∙ ap (λ (h : Heading). succeeded (h .moves) (reached-state .clock .0)) kept-heading
-
-  -- arrival less departure is the sum of its road times, breaks and rests
-  pub retimed-seconds : reached-state .clock .0 ≡ orderOf order .departure .0 + rowSeconds (tripOf map (orderOf order)) (rowsOf sheet 1 (movesOn sheet))
-  unfolding timing
-  retimed-seconds = walk-seconds false (tripOf map (orderOf order)) 1 (startOf (orderOf order)) (rowsOf sheet 1 (movesOn sheet)) found-reached

@@ -9,7 +9,7 @@ use Rattle.moves.specs.declared.State.{State}
 use Rattle.moves.specs.declared.Move.{Move}
 use Rattle.moves.specs.declared.Step.the-variants.{Foreign, Overrun, Moved}
 use Rattle.moves.specs.Trip.{Trip}
-use Rattle.moves.specs.Moves.{move, moveSeconds, stepped}
+use Rattle.moves.specs.Moves.{move, stepped}
 use Rattle.sheets.specs.declared.Row.{Row}
 
 -- refused: the refusal's number and the move; reached: the last state, and the records with their true clocks
@@ -52,8 +52,3 @@ stray target (reached s rows) = placed (not (eqb (s .junction) target)) (s .junc
 abbrev pub arrivalReached : Walk → ℕ
 arrivalReached (refused number move) = 0
 arrivalReached (reached s rows) = s .clock .0
-
--- the sum of road times, breaks and rests
-unfoldable pub rowSeconds : Trip → List Row → ℕ
-rowSeconds trip [] = 0
-rowSeconds trip (row ∷ rows) = moveSeconds trip (moveOf row) + rowSeconds trip rows
