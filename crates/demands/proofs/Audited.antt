@@ -23,15 +23,16 @@ use Rattle.moves.specs.Opened.{runTests}
 use Rattle.sheets.specs.declared.Row.{Row}
 use Rattle.sheets.specs.Sheet.{headingOf, rowsOf, sheetNeeded}
 use Rattle.sheets.proofs.Reading.{none-whole}
-use Rattle.retiming.specs.Walk.{Walk, refused, reached, moveOf, trueRow, walk, moveTest, stray, arrivalReached}
+use Rattle.retiming.specs.Walk.{Walk, refused, reached, moveOf, trueRow, walk, stray, arrivalReached}
 use Rattle.retiming.specs.Retiming.{movesOn, timing, sheetTests, falseFigures, falseHeader, auditTests, auditReply}
 use Rattle.retiming.proofs.Walking.{OneRow, stops, passes, one-row, walk-end, walk-moved}
 use Rattle.retiming.proofs.Rewriting.{cut}
+use Rattle.retiming.proofs.Audited.{never-reached, Met, met}
 use Rattle.journeys.specs.Journeys.{startIn, atTarget}
 use Rattle.journeys.specs.Planning.{tripFrom}
 use Rattle.demands.specs.Runs.{movesRead, HoldsJourney}
 use Rattle.demands.proofs.Refusals.{audit-numbered}
-use Rattle.demands.proofs.Retimed.{never-reached, none-behind, Passed, walk-passed}
+use Rattle.demands.proofs.Retimed.{none-behind, Passed, walk-passed}
 
 -- where clocks are compared, the records that a walk passes over have their true clocks already
 walk-same : (trip : Trip) (k : ℕ) (s : State) (rs : List Row) {l : State} {ys : List Row} → walk true trip k s rs ≡ reached l ys → rs ≡ ys
@@ -55,16 +56,6 @@ walk-same trip k s (row ∷ rs) {l} {ys} e = by (one-row true trip k s row) (λ 
         ∙ ap (λ (zs : List Row). trueRow row t ∷ zs) (on t (first .zs) (first .rest))
         ∙ sym (first .is)
 
--- a walk that no refusal met
-record Ended (w : Walk) : Type 0 where
-  state : State
-  rows : List Row
-  is : w ≡ reached state rows
-
-ended : (w : Walk) → moveTest w .place ≡ none → Ended w
-ended (refused number move) e = absurd (let z : _≡_ {A = ℕ} 0 1 = cc in omega arith)
-ended (reached s rows) e = record { state = s; rows = rows; is = refl }
-
 module _ (bytes order sheet : List ℕ) (number-0 : auditReply bytes order sheet .number ≡ 0) where
   abbrev trip : Trip
   trip = tripFrom bytes order
@@ -78,12 +69,12 @@ module _ (bytes order sheet : List ℕ) (number-0 : auditReply bytes order sheet
   late : NoneFits (sheetTests (orderOf order) sheet walked ++ (18 at falseHeader (headingOf sheet) walked) ∷ [])
   late = none-behind (runTests bytes order) (sheetTests (orderOf order) sheet walked ++ (18 at falseHeader (headingOf sheet) walked) ∷ []) none-fit
 
-  end : Ended walked
-  end = ended walked (late .1 .0)
+  end : Met walked
+  end = met walked (late .1 .0)
 
   -- where the moves lead
   pub reached-by : State
-  reached-by = end .state
+  reached-by = end .s
 
   found : walked ≡ reached reached-by (end .rows)
   unfolding reached-by

@@ -23,12 +23,12 @@ use Rattle.sheets.specs.declared.Heading.{Heading}
 use Rattle.sheets.specs.declared.Row.{Row}
 use Rattle.sheets.specs.Sheet.{headingOf, rowsOf, sheetNeeded, sheetAfter, shortSheet}
 use Rattle.sheets.proofs.Reading.{length-after, length-rows-of}
-use Rattle.retiming.specs.Walk.{Walk, refused, reached, moveOf, trueRow, walk, stray}
+use Rattle.retiming.specs.Walk.{Walk, reached, moveOf, trueRow, walk, stray}
 use Rattle.retiming.specs.Retiming.{movesOn, timing, sheetTests, retimingTests, retimingReply, retimedSheet, auditReply, Retimed}
 use Rattle.retiming.proofs.Walking.{OneRow, stops, passes, one-row, walk-end, moved-to}
 use Rattle.retiming.proofs.Rewriting.{cut, walk-length}
 use Rattle.retiming.proofs.Retimes.{retimedHeading}
-use Rattle.retiming.proofs.Audited.{reached-state, true-rows, found-reached, written, retimed-reply, retimed-audits}
+use Rattle.retiming.proofs.Audited.{reached-state, true-rows, found-reached, written, retimed-reply, retimed-audits, never-reached}
 use Rattle.journeys.specs.Journeys.{startIn, atTarget, Leads, stay, go}
 use Rattle.journeys.specs.Plan.{rowsFrom}
 use Rattle.journeys.specs.Planning.{tripFrom}
@@ -36,9 +36,6 @@ use Rattle.journeys.proofs.Rows.{rows-moves}
 use Rattle.demands.specs.Runs.{movesRead, HoldsJourney, headerAndRecords}
 use Rattle.demands.proofs.Refusals.{retiming-numbered}
 use Rattle.demands.proofs.Decoded.{heading-read, count-read, rows-read, rest-stays}
-
-pub never-reached : {number k : ℕ} {l : State} {ys : List Row} → refused number k ≡ reached l ys → ⊥
-never-reached p = let z : _≡_ {A = ℕ} 0 1 = cc in omega arith
 
 -- the moves that a walk passes over are legal and lead to the state that it reaches, with their true clocks in the records reached
 pub record Passed (trip : Trip) (s : State) (ms : List Move) (l : State) (ys : List Row) : Type 0 where

@@ -4,10 +4,9 @@ use mathlib.Core.Bool.{Bool, true, false}
 use mathlib.Core.List.{List}
 use mathlib.Core.Option.{Option, none, some}
 use Prim.Native.Nat.{ℕ, _≤_, _<_}
-use native.Mathlib.Omega.{arith}
 use borrow.Author.Tests.{lt-ltb, le-ltb, ltb-false, eq-eqb, ne-eqb}
 use lib.ListN.{length}
-use Rattle.booleans.proofs.Tests.{or-false}
+use Rattle.booleans.proofs.Tests.{some-not-none, or-false}
 use Rattle.replies.specs.declared.Refusal.the-variants.{ShortMap, StrangeMap, Oversize, Misfit}
 use Rattle.replies.specs.First.{firstOf, placed, NoneFits, Refuses}
 use Rattle.roadmap.specs.declared.Sizes.{Sizes}
@@ -26,12 +25,12 @@ within {low} {high} {value} e =
     record { above = ltb-false _ _ (both .0); below = ltb-false _ _ (both .1) }
 
 pub placed-none : {b : Bool} (place : ℕ) → placed b place ≡ none → b ≡ false
-placed-none {b = true} place e = absurd (let z : _≡_ {A = ℕ} 0 1 = cc in omega arith)
+placed-none {b = true} place e = absurd (some-not-none e)
 placed-none {b = false} place e = refl
 
 or-else-none : {a b : Option ℕ} → orElse a b ≡ none → (a ≡ none) × (b ≡ none)
 or-else-none {a = none} e = (refl, e)
-or-else-none {a = some x} e = absurd (let z : _≡_ {A = ℕ} 0 1 = cc in omega arith)
+or-else-none {a = some x} e = absurd (some-not-none e)
 
 -- counts that are not oversize are in range
 pub record CountsInRange (junctions roads names : ℕ) : Type 0 where

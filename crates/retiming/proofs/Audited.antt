@@ -8,6 +8,7 @@ use native.Mathlib.Omega.{arith}
 use borrow.Author.Tests.{eq-eqb}
 use lib.Dec.{lit≤}
 use lib.ListN.{length, take}
+use Rattle.booleans.proofs.Tests.{some-not-none}
 use Rattle.replies.specs.First.{_at_, firstOf, NoneFits}
 use Rattle.replies.specs.Told.{succeeded}
 use Rattle.replies.proofs.First.{none-fitted, none-of-both, none-at-all}
@@ -27,7 +28,7 @@ use Rattle.retiming.proofs.Walking.{OneRow, stops, passes, one-row, wal
 use Rattle.retiming.proofs.Rewriting.{cut, walk-length}
 use Rattle.retiming.proofs.Retimes.{retimedHeading}
 
-never-reached : {number k : ℕ} {l : State} {ys : List Row} → refused number k ≡ reached l ys → ⊥
+pub never-reached : {number k : ℕ} {l : State} {ys : List Row} → refused number k ≡ reached l ys → ⊥
 never-reached p = let z : _≡_ {A = ℕ} 0 1 = cc in omega arith
 
 -- the records that a walk gives are walked over to the same end, their clocks compared too
@@ -64,13 +65,13 @@ walk-number clocks trip k s (row ∷ rs) {number} {move} e = by (one-row clocks 
     by (passes t moved always) go = go t (after-record (trueRow row t) (walk clocks trip (k + 1) t rs) (sym (always rs) ∙ e))
 
 -- a walk that no refusal met
-record Met (w : Walk) : Type 0 where
-  s : State
-  rows : List Row
-  is : w ≡ reached s rows
+pub record Met (w : Walk) : Type 0 where
+  pub s : State
+  pub rows : List Row
+  pub is : w ≡ reached s rows
 
-met : (w : Walk) → moveTest w .place ≡ none → Met w
-met (refused number move) e = absurd (let z : _≡_ {A = ℕ} 0 1 = cc in omega arith)
+pub met : (w : Walk) → moveTest w .place ≡ none → Met w
+met (refused number move) e = absurd (some-not-none e)
 met (reached s rows) e = record { s = s; rows = rows; is = refl }
 
 -- the figures that retiming writes into the header are true
