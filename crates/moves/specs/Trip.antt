@@ -38,7 +38,7 @@ tripOf map order =
       order = order;
     }
 
--- what stands for a road with no number of the map
+-- in place of a road that the map does not have
 abbrev pub noStretch : Stretch
 noStretch = record { from = 0; to = 0; seconds = 0 }
 
