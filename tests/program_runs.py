@@ -35,7 +35,7 @@ def run(title, expected, trunk=None, orders=None, reads={}):
 
 def read_run(title, expected, name, steps, trunk=T, orders=order()):
     """The reads of the file of that name go by the steps; -1 is one that fails."""
-    run(title, expected, trunk, orders, {"LD_PRELOAD": str(BUILT_READS), "READ_FILE": name, "READ_STEPS": steps})
+    run(title, expected, trunk, orders, {"LD_PRELOAD": "./" + BUILT_READS.name, "READ_FILE": name, "READ_STEPS": steps})
 
 
 def listed_run(title, trunk, orders, asked=None, part=""):
@@ -158,6 +158,8 @@ def fault(program, expected, trunk, orders, reads):
         folder = pathlib.Path(name)
         lay(folder, "map", trunk)
         lay(folder, "order", orders)
+        if reads:  # by a path with no space or colon, which LD_PRELOAD would take for the end of a name
+            (folder / BUILT_READS.name).symlink_to(BUILT_READS)
         done = subprocess.run([program], cwd=folder, stdin=subprocess.DEVNULL, capture_output=True, env={**os.environ, **reads})
     if done.returncode != 0 or done.stderr:
         return "it ended with status %d and said %r" % (done.returncode, done.stderr)
