@@ -12,7 +12,7 @@ use lib.ListN.{length}
 use Rattle.booleans.proofs.Tests.{cases, or-false}
 use Rattle.replies.specs.First.{_at_, NoneFits}
 use Rattle.replies.specs.Told.{succeeded}
-use Rattle.replies.proofs.First.{none-fitted, none-at-all}
+use Rattle.replies.proofs.First.{none-fitted, none-at-all, none-behind}
 use Rattle.mapcheck.proofs.Counts.{placed-none}
 use Rattle.driving.specs.Order.{orderOf}
 use Rattle.moves.specs.declared.State.{State}
@@ -23,7 +23,7 @@ use Rattle.moves.specs.Opened.{runTests}
 use Rattle.sheets.specs.declared.Row.{Row}
 use Rattle.sheets.specs.Sheet.{headingOf, rowsOf, sheetNeeded}
 use Rattle.sheets.proofs.Reading.{none-whole}
-use Rattle.retiming.specs.Walk.{Walk, refused, reached, moveOf, trueRow, walk, stray, arrivalReached}
+use Rattle.retiming.specs.Walk.{Walk, refused, reached, moveOf, trueRow, walk, arrivalReached}
 use Rattle.retiming.specs.Retiming.{movesOn, timing, sheetTests, falseFigures, falseHeader, auditTests, auditReply}
 use Rattle.retiming.proofs.Walking.{OneRow, stops, passes, one-row, walk-end, walk-moved}
 use Rattle.retiming.proofs.Rewriting.{cut}
@@ -32,7 +32,7 @@ use Rattle.journeys.specs.Journeys.{startIn, atTarget}
 use Rattle.journeys.specs.Planning.{tripFrom}
 use Rattle.demands.specs.Runs.{movesRead, HoldsJourney}
 use Rattle.demands.proofs.Refusals.{audit-numbered}
-use Rattle.demands.proofs.Retimed.{none-behind, Passed, walk-passed}
+use Rattle.demands.proofs.Retimed.{ends-at, Passed, walk-passed}
 
 -- where clocks are compared, the records that a walk passes over have their true clocks already
 walk-same : (trip : Trip) (k : ℕ) (s : State) (rs : List Row) {l : State} {ys : List Row} → walk true trip k s rs ≡ reached l ys → rs ≡ ys
@@ -89,10 +89,7 @@ module _ (bytes order sheet : List ℕ) (number-0 : auditReply bytes order sheet
   own-rows = walk-same _ 1 _ (rowsOf sheet 1 (movesOn sheet)) found
 
   at-target : atTarget trip reached-by ≡ true
-  unfolding tripOf atTarget
-  at-target =
-      let straight : stray (orderOf order .target) (reached reached-by (end .rows)) ≡ none = rw found at (late .1 .1 .0) in
-      not-false (eqb (reached-by .junction) (orderOf order .target)) (placed-none (reached-by .junction) straight)
+  at-target = ends-at bytes order reached-by (end .rows) (rw found at (late .1 .1 .0))
 
   long : sheetNeeded (movesOn sheet) ≤ length sheet
   long = omega (arith, none-whole sheet (late .0) .exact)

@@ -1,40 +1,36 @@
 -- What a retiming that succeeds has written, decoded from the sheet's bytes. Assumes nothing.
 use mathlib.Core.Path.{_≡_, refl, sym, ap, subst, _∙_}
 use mathlib.Core.Bool.{Bool, true, false}
-use mathlib.Core.List.{List, [], _∷_, _++_, map}
+use mathlib.Core.List.{List, [], _∷_, map}
 use mathlib.Core.Option.{none}
-use Prim.Native.Nat.{ℕ, _+_, _≤_}
+use Prim.Native.Nat.{ℕ, _+_}
 use native.Mathlib.Omega.{arith}
-use borrow.Author.Tests.{ltb-false, not-false}
+use borrow.Author.Tests.{not-false}
 use lib.Dec.{eqb}
 use lib.ListN.{length, take, drop}
 use Rattle.replies.specs.declared.Reply.{Reply}
 use Rattle.replies.specs.declared.Timing.{Timing}
-use Rattle.replies.specs.First.{Test, _at_, NoneFits}
 use Rattle.replies.specs.Told.{succeeded, toldTiming}
-use Rattle.replies.proofs.First.{none-fitted}
 use Rattle.mapcheck.proofs.Counts.{placed-none}
 use Rattle.driving.specs.Order.{orderOf}
 use Rattle.moves.specs.declared.State.{State}
 use Rattle.moves.specs.declared.Move.{Move}
 use Rattle.moves.specs.Trip.{Trip, tripOf}
-use Rattle.moves.specs.Opened.{runTests}
 use Rattle.sheets.specs.declared.Heading.{Heading}
 use Rattle.sheets.specs.declared.Row.{Row}
-use Rattle.sheets.specs.Sheet.{headingOf, rowsOf, sheetNeeded, sheetAfter, shortSheet}
-use Rattle.sheets.proofs.Reading.{length-after, length-rows-of}
-use Rattle.retiming.specs.Walk.{Walk, reached, moveOf, trueRow, walk, stray}
-use Rattle.retiming.specs.Retiming.{movesOn, timing, sheetTests, retimingTests, retimingReply, retimedSheet, auditReply, Retimed}
+use Rattle.sheets.specs.Sheet.{headingOf, rowsOf, sheetNeeded, sheetAfter}
+use Rattle.sheets.proofs.Reading.{length-after}
+use Rattle.retiming.specs.Walk.{reached, moveOf, trueRow, walk, stray}
+use Rattle.retiming.specs.Retiming.{movesOn, timing, retimingReply, retimedSheet, auditReply, Retimed}
 use Rattle.retiming.proofs.Walking.{OneRow, stops, passes, one-row, walk-end, moved-to}
-use Rattle.retiming.proofs.Rewriting.{cut, walk-length}
+use Rattle.retiming.proofs.Rewriting.{cut}
 use Rattle.retiming.proofs.Retimes.{retimedHeading}
-use Rattle.retiming.proofs.Audited.{reached-state, true-rows, found-reached, written, retimed-reply, retimed-audits, never-reached}
+use Rattle.retiming.proofs.Audited.{reached-state, true-rows, found-reached, written, retimed-reply, retimed-audits, never-reached, room, row-count, at-target}
 use Rattle.journeys.specs.Journeys.{startIn, atTarget, Leads, stay, go}
 use Rattle.journeys.specs.Plan.{rowsFrom}
 use Rattle.journeys.specs.Planning.{tripFrom}
 use Rattle.journeys.proofs.Rows.{rows-moves}
 use Rattle.demands.specs.Runs.{movesRead, HoldsJourney, headerAndRecords}
-use Rattle.demands.proofs.Refusals.{retiming-numbered}
 use Rattle.demands.proofs.Decoded.{heading-read, count-read, rows-read, rest-stays}
 
 -- the moves that a walk passes over are legal and lead to the state that it reaches, with their true clocks in the records reached
@@ -65,10 +61,10 @@ walk-passed clocks trip k s (row ∷ rs) {l} {ys} e = by (one-row clocks trip k 
               ∙ ap (λ (z : State). trueRow row z ∷ rowsFrom trip z (map moveOf rs)) (to .result);
         }
 
--- of two lists of which none fits, the second
-pub none-behind : (ts us : List Test) → NoneFits (ts ++ us) → NoneFits us
-none-behind [] us none-fits = none-fits
-none-behind (t ∷ ts) us none-fits = none-behind ts us (none-fits .1)
+-- a walk that does not stray ends at target
+pub ends-at : (bytes order : List ℕ) (t : State) (rows : List Row) → stray (orderOf order .target) (reached t rows) ≡ none → atTarget (tripFrom bytes order) t ≡ true
+unfolding tripOf atTarget
+ends-at bytes order t rows straight = not-false (eqb (t .junction) (orderOf order .target)) (placed-none (t .junction) straight)
 
 module _ {bytes order sheet out out′ : List ℕ} {answer : Timing} (retimed : Retimed bytes order sheet out out′ answer) (done : toldTiming answer .number ≡ 0) where
   abbrev trip : Trip
@@ -87,36 +83,15 @@ module _ {bytes order sheet out out′ : List ℕ} {answer : Timing} (retimed : 
   abbrev heading : Heading
   heading = retimedHeading (headingOf sheet) state
 
-  abbrev walked : Walk
-  walked = timing false bytes (orderOf order) sheet
-
-  found : walked ≡ reached state rows
-  found = found-reached bytes order sheet out number-0
-
   is : out′ ≡ sheetAfter heading rows out
   is = retimed .bytes ∙ written bytes order sheet out number-0
 
   count : movesOn sheet ≡ length rows
-  unfolding timing
-  count = sym (walk-length false _ 1 _ _ found ∙ length-rows-of sheet 1 (movesOn sheet))
-
-  late : NoneFits (sheetTests (orderOf order) sheet walked ++ (14 at shortSheet (movesOn sheet) (length out)) ∷ [])
-  late =
-      none-behind (runTests bytes order) (sheetTests (orderOf order) sheet walked ++ (14 at shortSheet (movesOn sheet) (length out)) ∷ [])
-      (none-fitted (retimingTests bytes order sheet out walked) _ (retiming-numbered bytes order sheet out) number-0)
-
-  long : sheetNeeded (movesOn sheet) ≤ length out
-  long = ltb-false _ _ (placed-none (sheetNeeded (movesOn sheet)) (late .1 .1 .1 .0))
-
-  at-target : atTarget trip state ≡ true
-  unfolding tripOf atTarget
-  at-target =
-      let straight : stray (orderOf order .target) (reached state rows) ≡ none = rw found at (late .1 .1 .0) in
-      not-false (eqb (state .junction) (orderOf order .target)) (placed-none (state .junction) straight)
+  count = sym (row-count bytes order sheet out number-0)
 
   passed : Passed trip (startIn trip) (movesRead sheet) state rows
   unfolding timing tripOf
-  passed = walk-passed false trip 1 (startIn trip) (rowsOf sheet 1 (movesOn sheet)) found
+  passed = walk-passed false trip 1 (startIn trip) (rowsOf sheet 1 (movesOn sheet)) (found-reached bytes order sheet out number-0)
 
   same-count : movesOn out′ ≡ movesOn sheet
   same-count = count-read heading rows out count is ∙ sym count
@@ -132,7 +107,7 @@ module _ {bytes order sheet out out′ : List ℕ} {answer : Timing} (retimed : 
   rest-retimed = rest-stays heading rows out count is
 
   pub length-retimed : length out′ ≡ length out
-  length-retimed = ap length is ∙ length-after heading rows out (omega (arith, long, count))
+  length-retimed = ap length is ∙ length-after heading rows out (omega (arith, room bytes order sheet out number-0, count))
 
   pub told-retimed : toldTiming answer ≡ succeeded (movesOn sheet) (state .clock .0)
   told-retimed = retimed .reply ∙ retimed-reply bytes order sheet out number-0
@@ -141,8 +116,8 @@ module _ {bytes order sheet out out′ : List ℕ} {answer : Timing} (retimed : 
   pub retimed-holds : HoldsJourney trip out′ state
   retimed-holds =
       record {
-        long = omega (arith, length-retimed, long, same-count);
-        journey = rw same-moves (record { leads = passed .leads; ends = at-target });
+        long = omega (arith, length-retimed, room bytes order sheet out number-0, same-count);
+        journey = rw same-moves (record { leads = passed .leads; ends = ends-at bytes order state rows (at-target bytes order sheet out number-0) });
         clocks = rows-read heading rows out count is ∙ passed .clocks ∙ ap (rowsFrom trip (startIn trip)) (sym same-moves);
         arrival = ap (λ (h : Heading). h .arrival) (heading-read heading rows out count is);
         spell = ap (λ (h : Heading). h .spell) (heading-read heading rows out count is);

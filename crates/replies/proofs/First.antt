@@ -166,6 +166,15 @@ pub none-of-both : (ts us : List Test) → NoneFits ts → NoneFits us → NoneF
 none-of-both [] us none-first none-second = none-second
 none-of-both (t ∷ ts) us none-first none-second = (none-first .0, none-of-both ts us (none-first .1) none-second)
 
+-- where none of two lists fits, none of the first does, and none of the second
+pub none-before : (ts us : List Test) → NoneFits (ts ++ us) → NoneFits ts
+none-before [] us none-fits = tt
+none-before (t ∷ ts) us none-fits = (none-fits .0, none-before ts us (none-fits .1))
+
+pub none-behind : (ts us : List Test) → NoneFits (ts ++ us) → NoneFits us
+none-behind [] us none-fits = none-fits
+none-behind (t ∷ ts) us none-fits = none-behind ts us (none-fits .1)
+
 pub none-at-all : (ts : List Test) (success : Reply) → NoneFits ts → firstOf ts success ≡ success
 unfolding firstOf
 none-at-all [] success all = refl

@@ -5,13 +5,14 @@ use mathlib.Core.List.{List, [], _∷_, _++_}
 use mathlib.Core.Option.{none}
 use Prim.Native.Nat.{ℕ, _+_, _≤_}
 use native.Mathlib.Omega.{arith}
-use borrow.Author.Tests.{eq-eqb}
+use borrow.Author.Tests.{eq-eqb, ltb-false}
 use lib.Dec.{lit≤}
 use lib.ListN.{length, take}
 use Rattle.booleans.proofs.Tests.{some-not-none}
-use Rattle.replies.specs.First.{_at_, firstOf, NoneFits}
+use Rattle.replies.specs.First.{Test, _at_, firstOf, NoneFits}
 use Rattle.replies.specs.Told.{succeeded}
-use Rattle.replies.proofs.First.{none-fitted, none-of-both, none-at-all}
+use Rattle.replies.proofs.First.{none-fitted, none-of-both, none-at-all, none-before, none-behind}
+use Rattle.mapcheck.proofs.Counts.{placed-none}
 use Rattle.driving.specs.Order.{orderOf}
 use Rattle.moves.specs.declared.State.{State}
 use Rattle.moves.specs.Trip.{Trip, tripOf}
@@ -19,7 +20,7 @@ use Rattle.moves.specs.Moves.{startOf}
 use Rattle.moves.specs.Opened.{runTests}
 use Rattle.sheets.specs.declared.Heading.{Heading}
 use Rattle.sheets.specs.declared.Row.{Row}
-use Rattle.sheets.specs.Sheet.{headingOf, rowsOf, sheetNeeded, sheetAfter, tornSheet}
+use Rattle.sheets.specs.Sheet.{headingOf, rowsOf, sheetNeeded, sheetAfter, tornSheet, shortSheet}
 use Rattle.sheets.specs.Written.{Whole}
 use Rattle.sheets.proofs.Reading.{none-whole, length-rows-of, prefix-heading, prefix-rows, prefix-untorn}
 use Rattle.retiming.specs.Walk.{Walk, refused, reached, trueRow, recorded, walk, moveTest, stray, arrivalReached}
@@ -98,13 +99,25 @@ module _ (map order sheet out : List ℕ) (number-0 : retimingReply map order sh
       (lit≤ tt, (lit≤ tt, (lit≤ tt, (lit≤ tt, (lit≤ tt, (lit≤ tt, (lit≤ tt, (lit≤ tt, (lit≤ tt, (lit≤ tt, (lit≤ tt, (lit≤ tt, (move-number, (lit≤ tt, (lit≤ tt, tt)))))))))))))))
       number-0
 
-  sheet-tests : NoneFits (sheetTests (orderOf order) sheet found)
-  sheet-tests = let late = none-fitting .1 .1 .1 .1 .1 .1 .1 .1 .1 .1 .1 in (late .0, (late .1 .0, (late .1 .1 .0, tt)))
+  -- 14, and what comes before it once the run is opened
+  abbrev short-test : List Test
+  short-test = (14 at shortSheet (movesOn sheet) (length out)) ∷ []
+
+  abbrev opened-tests : List Test
+  opened-tests = sheetTests (orderOf order) sheet found ++ short-test
 
   run-tests : NoneFits (runTests map order)
-  run-tests =
-      let n = none-fitting in
-      (n .0, (n .1 .0, (n .1 .1 .0, (n .1 .1 .1 .0, (n .1 .1 .1 .1 .0, (n .1 .1 .1 .1 .1 .0, (n .1 .1 .1 .1 .1 .1 .0, (n .1 .1 .1 .1 .1 .1 .1 .0, (n .1 .1 .1 .1 .1 .1 .1 .1 .0, (n .1 .1 .1 .1 .1 .1 .1 .1 .1 .0, (n .1 .1 .1 .1 .1 .1 .1 .1 .1 .1 .0, tt)))))))))))
+  run-tests = none-before (runTests map order) opened-tests none-fitting
+
+  late-tests : NoneFits opened-tests
+  late-tests = none-behind (runTests map order) opened-tests none-fitting
+
+  sheet-tests : NoneFits (sheetTests (orderOf order) sheet found)
+  sheet-tests = none-before (sheetTests (orderOf order) sheet found) short-test late-tests
+
+  -- the other sheet is long enough
+  pub room : sheetNeeded (movesOn sheet) ≤ length out
+  room = ltb-false _ _ (placed-none (sheetNeeded (movesOn sheet)) (none-behind (sheetTests (orderOf order) sheet found) short-test late-tests .0))
 
   ended : Met found
   ended = met found (sheet-tests .1 .0)
@@ -123,7 +136,7 @@ module _ (map order sheet out : List ℕ) (number-0 : retimingReply map order sh
   unfolding reached-state true-rows
   found-reached = ended .is
 
-  row-count : length true-rows ≡ movesOn sheet
+  pub row-count : length true-rows ≡ movesOn sheet
   unfolding timing
   row-count = walk-length false _ 1 _ _ found-reached ∙ length-rows-of sheet 1 (movesOn sheet)
 
@@ -161,7 +174,7 @@ module _ (map order sheet out : List ℕ) (number-0 : retimingReply map order sh
   kept-whole : tornSheet kept ≡ none
   kept-whole = ap tornSheet kept-is ∙ prefix-untorn heading true-rows out (sym row-count) (omega (arith, whole, row-count))
 
-  at-target : stray (orderOf order .target) (reached reached-state true-rows) ≡ none
+  pub at-target : stray (orderOf order .target) (reached reached-state true-rows) ≡ none
   at-target = rw found-reached at (sheet-tests .1 .1 .0)
 
   audit-tests : NoneFits (sheetTests (orderOf order) kept (reached reached-state true-rows) ++ ((18 at falseHeader (headingOf kept) (reached reached-state true-rows)) ∷ []))
