@@ -2,7 +2,9 @@
 """Lists the definitions that a reader must believe: every file of specs/ that the demands and the library's calls rest on.
 
     tests/believed.py           write the table into docs/TRUST.md
-    tests/believed.py --check   fail where docs/TRUST.md has another table, or a definition leans on a file of proofs/
+    tests/believed.py --check   fail where docs/TRUST.md has another table
+
+Both fail where a definition, or the statement of a theorem, leans on a file of proofs/.
 """
 import pathlib
 import re
@@ -11,17 +13,30 @@ import sys
 TOP = pathlib.Path(__file__).resolve().parent.parent
 PAGE = TOP / "docs" / "TRUST.md"
 BEGIN, END = "<!-- believed: written by tests/believed.py -->\n", "<!-- end of believed -->\n"
-STATEMENTS = [TOP / "crates/demands/proofs/Demands.antt", TOP / "crates/trunk/specs/Calls.antt"]
-IMPORT = re.compile(r"^use Rattle·(\w+?)(?:·\w+)?\.(specs|proofs)\.([\w.-]+?)(?:\.\{|\s|$)", re.MULTILINE)
+THEOREMS = TOP / "crates/demands/proofs/Demands.antt"
+STATEMENTS = [THEOREMS, TOP / "crates/trunk/specs/Calls.antt"]
+IMPORT = re.compile(r"^use Rattle·(\w+?)(?:·\w+)?\.(specs|proofs)\.([\w.-]+?)(?:\.\{(.*)\}|\s.*)?$", re.MULTILINE)
+SECTION = re.compile(r"^ *module _ .*?\bwhere$", re.MULTILINE | re.DOTALL)
+STATEMENT = re.compile(r"^( *)pub (\S+) : .*?(?=^\1(?:unfolding|\2) )", re.MULTILINE | re.DOTALL)
 
 
 def imports(file):
     """The files of specs/ that a file imports from; types that code declares have none."""
-    for crate, folder, module in IMPORT.findall(file.read_text()):
-        if folder == "proofs" and file not in STATEMENTS:
+    for crate, folder, module, _ in IMPORT.findall(file.read_text()):
+        if folder == "proofs" and file != THEOREMS:
             sys.exit("%s rests on proofs/ of %s: a definition may not" % (file.relative_to(TOP), crate))
         if folder == "specs" and not module.startswith("declared"):
             yield TOP / "crates" / crate / "specs" / (module + ".antt")
+
+
+def check_theorems():
+    """A theorem's proof may cite anything, its statement and its section's assumptions only definitions."""
+    text = THEOREMS.read_text()
+    laws = {law.strip() for _, folder, _, names in IMPORT.findall(text) if folder == "proofs" for law in names.split(",")}
+    for said in [*SECTION.finditer(text), *STATEMENT.finditer(text)]:
+        cited = laws.intersection(re.findall(r"[^\s(){},]+", said.group()))
+        if cited:
+            sys.exit("%s: a statement rests on %s of proofs/" % (THEOREMS.relative_to(TOP), ", ".join(sorted(cited))))
 
 
 def believed():
@@ -58,6 +73,7 @@ def table():
 
 
 def main():
+    check_theorems()
     page = PAGE.read_text()
     before, rest = page.split(BEGIN)
     wanted = before + BEGIN + table() + END + rest.split(END)[1]
