@@ -1,2 +1,2 @@
-// Laws of tests, which every layer's proofs cite: in proofs/Tests.antt, no code.
+// Laws of tests, which the proofs of most layers cite: in proofs/Tests.antt, no code.
 // Assumes nothing.
