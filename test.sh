@@ -33,6 +33,9 @@ step "Other planner: build and self-test"
 cargo build --quiet --release --offline --manifest-path tests/other/Cargo.toml --target-dir tests/other/target
 tests/other/target/release/other self-test | tail -n 1
 
+step "Wrong copies of the other planner, each with the random case that finds it"
+tests/other/target/release/other wrong 1 2000
+
 step "Stored worked cases"
 python3 tests/worked_cases.py --check
 
