@@ -3,6 +3,7 @@ ghost use Prim.Native.Nat.{_≤_};
 ghost use lib.ListN.{length};
 ghost use Rattle.io.specs.Counts.{Counts};
 ghost use Rattle.moves.specs.Runs.{Accepted};
+ghost use Rattle.sheets.specs.Sheet.{headerBytes};
 use libc::STDOUT_FILENO;
 use moves::Move;
 use moves::Opened;
@@ -21,7 +22,7 @@ const FILE_BYTES: usize = 65537;
 const LABEL_WORDS: usize = 12800;
 
 // The header and 1,599 records: a plan of 1,600 labels has no more moves.
-const SHEET_BYTES: usize = 19208;
+const SHEET_BYTES: usize = Heading::BYTES + 1599 * Row::BYTES;
 
 // What is printed waits in a page of so many bytes.
 const PAGE_BYTES: usize = 4096;
@@ -107,13 +108,13 @@ fn put_move(page: &mut [u8; PAGE_BYTES], used: usize, map: &[u8], run: Run, row:
 // The plan's sheet holds a record for every move: that it is long enough is tested, not proved.
 fn put_moves(page: &mut [u8; PAGE_BYTES], map: &[u8], run: Run, sheet: &[u8]) -> usize
     requires { ⌜ Accepted (now map) run ⌝ }
-    requires { ⌜ 20 ≤ length (now sheet) ⌝ }
+    requires { ⌜ headerBytes ≤ length (now sheet) ⌝ }
 {
     let heading = sheets::read_heading(sheet);
     let moves = heading.moves as usize;
     let mut end = 0;
     let mut k = 1;
-    while k <= moves && 20 + 12 * k <= sheet.len() {
+    while k <= moves && sheets::sheet_needed(k as u32) <= sheet.len() {
         let row = sheets::read_row(sheet, k);
         end = put_move(page, end, map, run, row);
         k += 1;
@@ -146,7 +147,7 @@ fn print_refusal(reply: Reply) {
 // The listing of a plan's sheet.
 fn print_run(map: &[u8], run: Run, sheet: &[u8])
     requires { ⌜ Accepted (now map) run ⌝ }
-    requires { ⌜ 20 ≤ length (now sheet) ⌝ }
+    requires { ⌜ headerBytes ≤ length (now sheet) ⌝ }
 {
     let mut page = [0u8; PAGE_BYTES];
     let mut end = put_moves(&mut page, map, run, sheet);
@@ -156,7 +157,7 @@ fn print_run(map: &[u8], run: Run, sheet: &[u8])
 
 // The run is opened once more for the map's sizes.
 fn print_plan(map: &[u8], order: &[u8], sheet: &[u8])
-    requires { ⌜ 20 ≤ length (now sheet) ⌝ }
+    requires { ⌜ headerBytes ≤ length (now sheet) ⌝ }
 {
     let opened = moves::open_run(map, order);
     if let Opened::Ready(run) = opened {

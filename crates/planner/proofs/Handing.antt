@@ -2,7 +2,7 @@
 use mathlib.Core.Path.{_≡_, _∙_, refl, sym, ap}
 use mathlib.Core.List.{List}
 use mathlib.Core.Option.{Option, some}
-use Prim.Native.Nat.{ℕ, _+_, _-_, _*_, _≤_, _<_}
+use Prim.Native.Nat.{ℕ, _-_, _≤_, _<_}
 use native.Mathlib.Omega.{arith}
 use lib.ListN.{length}
 use Rattle.replies.specs.declared.Refusal.the-variants.{ShortSheet}
@@ -50,17 +50,17 @@ module _ (map : List ℕ) (run : Run) (words : List ℕ) (n : ℕ) (found : Foun
   moves-below = omega (arith, plan-short trip sound (found .answered .1), found .held .count)
 
   module _ (moves : ℕ) (counted : moves ≡ moveCount trip) (before : List ℕ) where
-    pub handed-short : length before < 20 + 12 * moves → HandedBack map run before before (Planning.Refused (ShortSheet (20 + 12 * moves)))
-    handed-short short =
+    pub handed-short : (needed : ℕ) → needed ≡ sheetNeeded moves → length before < needed → HandedBack map run before before (Planning.Refused (ShortSheet needed))
+    handed-short needed counts short =
         record {
-          reply = λ fit room. rw counted (sym (reply-short trip fit (length before) room (found .answered .1) (rw counted at short)));
+          reply = λ fit room. rw (counts, counted) (sym (reply-short trip fit (length before) room (found .answered .1) (rw (counts, counted) at short)));
           bytes = refl;
         }
 
     heading-same : headingFor moves (labelAt words n) n ≡ headingAt trip (stateOf (labelAt words n))
     heading-same = rw (counted, found .held .count)
 
-    pub handed-written : 20 + 12 * moves ≤ length before → (last : Label) → last ≡ labelAt words n → (rows after : List ℕ)
+    pub handed-written : sheetNeeded moves ≤ length before → (last : Label) → last ≡ labelAt words n → (rows after : List ℕ)
         → rows ≡ backward (planRows trip) 0 before → after ≡ withHeading rows (headingFor moves last n)
         → HandedBack map run before after (Planning.Planned n (record { 0 = last .clock }))
     handed-written fits last is rows after moved written =

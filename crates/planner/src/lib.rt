@@ -55,7 +55,7 @@ fn hand_back(map: &[u8], run: Run, words: &[u32], n: usize, sheet: &mut [u8]) ->
     ensures { λ r. ⌜ HandedBack (now (map .entry)) run (now (sheet .entry)) (now (sheet .exit)) r ⌝ }
 {
     let moves = readback::count_moves(words, n);
-    let needed = 20 + 12 * moves;
+    let needed = sheets::sheet_needed(moves as u32);
     if sheet.len() < needed {
         return Planning::Refused(Refusal::ShortSheet(needed));
     }

@@ -2,7 +2,7 @@
 use mathlib.Core.Path.{_≡_, _∙_, refl, sym, ap, subst}
 use mathlib.Core.Bool.{false}
 use mathlib.Core.List.{List, [], _∷_}
-use Prim.Native.Nat.{ℕ, _+_, _*_, _≤_, _<_}
+use Prim.Native.Nat.{ℕ, _≤_, _<_}
 use native.Mathlib.Omega.{arith}
 use borrow.Author.Tests.{ne-eqb, lt-ltb, le-ltb}
 use lib.ListN.{length}
@@ -41,12 +41,12 @@ module _ (map : List ℕ) (order : Order) (sheet before : List ℕ) where
   retimed-refused why says =
       record { reply = sym (says _ _); bytes = rw (ne-eqb (toldRefusal why .number) 0 (λ e. omega (arith, refusal-number why))) refl }
 
-  module _ (s : State) (ended : SheetSays order sheet timed (Walked.Reached s)) (given : Heading) (is : given ≡ headingOf sheet) where
-    pub retimed-short : length before < 20 + 12 * given .moves → RetimedRun map order sheet before before (Timing.Refused (ShortSheet (20 + 12 * given .moves)))
+  module _ (s : State) (ended : SheetSays order sheet timed (Walked.Reached s)) (given : Heading) (is : given ≡ headingOf sheet) (needed : ℕ) (counts : needed ≡ sheetNeeded (given .moves)) where
+    pub retimed-short : length before < needed → RetimedRun map order sheet before before (Timing.Refused (ShortSheet needed))
     retimed-short short =
-        let needs : length before < sheetNeeded (movesOn sheet) = rw is at short in
+        let needs : length before < sheetNeeded (movesOn sheet) = rw (counts, is) at short in
         record {
-          reply = rw is
+          reply = rw (counts, is)
               (sym
               (none-fits (sheetTests order sheet timed) _ _ (ended .1)
               ∙ stops-at (14 at shortSheet (movesOn sheet) (length before)) [] _ (rw (lt-ltb _ _ needs))));
@@ -58,12 +58,12 @@ module _ (map : List ℕ) (order : Order) (sheet before : List ℕ) where
     unfolding timing
     count = walk-length false _ 1 _ _ (reached-is timed s (ended .2)) ∙ length-rows-of sheet 1 (movesOn sheet)
 
-    pub retimed-written : 20 + 12 * given .moves ≤ length before → (after : List ℕ) →
+    pub retimed-written : needed ≤ length before → (after : List ℕ) →
         after ≡ withHeading (rowsPut 0 (rowsReached timed) before) (retimedHeading given s) →
         RetimedRun map order sheet before after (Timing.Timed (given .moves) (s .clock))
     unfolding firstOf
     retimed-written fits after written =
-        let enough : sheetNeeded (movesOn sheet) ≤ length before = rw is at fits in
+        let enough : sheetNeeded (movesOn sheet) ≤ length before = rw (counts, is) at fits in
         record {
           reply = rw (is, ← arrival-reached timed s (ended .2))
               (sym

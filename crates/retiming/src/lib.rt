@@ -187,7 +187,7 @@ fn retime_run(map: &[u8], run: Run, sheet: &[u8], out: &mut [u8]) -> Timing
         Walked::Refused(why) => Timing::Refused(why),
         Walked::Reached(state) => {
             let given = sheets::read_heading(sheet);
-            let needed = 20 + 12 * (given.moves as usize);
+            let needed = sheets::sheet_needed(given.moves);
             if out.len() < needed {
                 return Timing::Refused(Refusal::ShortSheet(needed));
             }

@@ -8,23 +8,23 @@ use lib.Seq.{sets-eq, take-add, drop-drop}
 use Rattle.words.specs.Word.{putAt}
 use Rattle.sheets.specs.declared.Heading.{Heading}
 use Rattle.sheets.specs.declared.Row.{Row}
-use Rattle.sheets.specs.Sheet.{wordBytes, headingBytes, rowBytes, rowsBytes, withHeading, withRowBehind, withRow}
+use Rattle.sheets.specs.Sheet.{wordBytes, headerBytes, recordBytes, headingBytes, rowBytes, rowsBytes, withHeading, withRowBehind, withRow}
 use Rattle.sheets.proofs.Splice.{splice, length-splice, splice-next}
 
 pub length-word : (w : ℕ) → length (wordBytes w) ≡ 4
 unfolding wordBytes
 length-word w = refl
 
-pub length-row : (row : Row) → length (rowBytes row) ≡ 12
+pub length-row : (row : Row) → length (rowBytes row) ≡ recordBytes
 unfolding rowBytes
 length-row row = simp (length-append, length-word)
 
-pub length-rows : (rows : List Row) → length (rowsBytes rows) ≡ 12 * length rows
+pub length-rows : (rows : List Row) → length (rowsBytes rows) ≡ recordBytes * length rows
 unfolding rowsBytes
 length-rows [] = refl
 length-rows (row ∷ rows) = simp (length-append, length-row, length-rows rows) (omega arith)
 
-pub length-heading : (h : Heading) → length (headingBytes h) ≡ 20
+pub length-heading : (h : Heading) → length (headingBytes h) ≡ headerBytes
 unfolding headingBytes
 length-heading h = simp (length-append, length-word)
 
@@ -44,7 +44,7 @@ put-next s xs a b e w first second fits =
     ∙ rw second (splice-next s xs (wordBytes w) a b e first (rw length-word second) fits)
 
 -- a record's three words, put one after the other
-pub put-row : (s : List ℕ) (row : Row) (a e : ℕ) → a + 12 ≡ e → e ≤ length s → putAt (putAt (putAt s a (row .kind)) (a + 4) (row .number)) (a + 8) (row .clock) ≡ splice s a (rowBytes row) e
+pub put-row : (s : List ℕ) (row : Row) (a e : ℕ) → a + recordBytes ≡ e → e ≤ length s → putAt (putAt (putAt s a (row .kind)) (a + 4) (row .number)) (a + 8) (row .clock) ≡ splice s a (rowBytes row) e
 unfolding rowBytes
 put-row s row a e whole fits =
     let one : List ℕ = wordBytes (row .kind) in
@@ -53,7 +53,7 @@ put-row s row a e whole fits =
     (put-next s (one ++ wordBytes (row .number)) a (a + 8) e (row .clock) (simp (length-append, length-word)) (omega arith) fits)
 
 -- a header's five
-pub put-heading : (s : List ℕ) (h : Heading) → 20 ≤ length s → putAt (putAt (putAt (putAt (putAt s 0 (h .moves)) 4 (h .arrival)) 8 (h .spell)) 12 (h .shift)) 16 (h .labels) ≡ withHeading s h
+pub put-heading : (s : List ℕ) (h : Heading) → headerBytes ≤ length s → putAt (putAt (putAt (putAt (putAt s 0 (h .moves)) 4 (h .arrival)) 8 (h .spell)) 12 (h .shift)) 16 (h .labels) ≡ withHeading s h
 unfolding headingBytes
 put-heading s h fits =
     let one : List ℕ = wordBytes (h .moves) in
@@ -62,8 +62,8 @@ put-heading s h fits =
     let four : List ℕ = three ++ wordBytes (h .shift) in
     rw
     (put-split s 0 (h .moves) (omega arith), put-next s one 0 4 8 (h .arrival) (rw length-word) refl (omega arith), put-next s two 0 8 12 (h .spell) (simp (length-append, length-word)) refl (omega arith), put-next s three 0 12 16 (h .shift) (simp (length-append, length-word)) refl (omega arith))
-    (put-next s four 0 16 20 (h .labels) (simp (length-append, length-word)) refl fits)
+    (put-next s four 0 16 headerBytes (h .labels) (simp (length-append, length-word)) refl fits)
 
 -- a record written into the part behind the header is the same record of the whole sheet
-pub behind-header : (s : List ℕ) (k : ℕ) (row : Row) → take 20 s ++ withRowBehind (drop 20 s) k row ≡ withRow s k row
-behind-header s k row = rw (take-add 20 (12 * (k - 1)) s) (simp (drop-drop, append-assoc))
+pub behind-header : (s : List ℕ) (k : ℕ) (row : Row) → take headerBytes s ++ withRowBehind (drop headerBytes s) k row ≡ withRow s k row
+behind-header s k row = rw (take-add headerBytes (recordBytes * (k - 1)) s) (simp (drop-drop, append-assoc))

@@ -16,7 +16,7 @@ use Rattle.booleans.proofs.Tests.{cases, some-not-none, or-false}
 use Rattle.words.specs.Word.{wordAt}
 use Rattle.sheets.specs.declared.Heading.{Heading}
 use Rattle.sheets.specs.declared.Row.{Row}
-use Rattle.sheets.specs.Sheet.{wordBytes, headingBytes, headingOf, rowBytes, rowsBytes, rowAt, rowsOf, sheetNeeded, mostMoves, sheetAfter, torn, tornSheet}
+use Rattle.sheets.specs.Sheet.{wordBytes, headerBytes, recordBytes, sheetNeeded, headingBytes, headingOf, rowBytes, rowsBytes, rowAt, rowsOf, mostMoves, sheetAfter, torn, tornSheet}
 use Rattle.sheets.specs.Written.{Whole}
 use Rattle.sheets.proofs.Splice.{length-splice}
 use Rattle.sheets.proofs.Bytes.{length-row, length-rows, length-heading}
@@ -58,14 +58,14 @@ row-past p t n at e =
     rw (add-assoc n at 4, add-assoc n at 8, word-past p t n at e, word-past p t n (at + 4) e, word-past p t n (at + 8) e)
 
 -- record i, counted from 0, of bytes that begin with records
-row-among : (rows : List Row) (t : List ℕ) (i : ℕ) (d : Row) → i < length rows → rowFrom (rowsBytes rows ++ t) (12 * i) ≡ getD rows i d
+row-among : (rows : List Row) (t : List ℕ) (i : ℕ) (d : Row) → i < length rows → rowFrom (rowsBytes rows ++ t) (recordBytes * i) ≡ getD rows i d
 unfolding rowsBytes
 row-among [] t i d below = absurd (omega arith)
 row-among (row ∷ rows) t zero d below = rw append-assoc (row-here row (rowsBytes rows ++ t))
 row-among (row ∷ rows) t (suc i) d below =
-    let next : 12 * suc i ≡ 12 + 12 * i = omega arith in
+    let next : recordBytes * suc i ≡ recordBytes + recordBytes * i = omega arith in
     rw (next, append-assoc)
-    (row-past (rowBytes row) (rowsBytes rows ++ t) 12 (12 * i) (length-row row) ∙ row-among rows t i d (omega arith))
+    (row-past (rowBytes row) (rowsBytes rows ++ t) recordBytes (recordBytes * i) (length-row row) ∙ row-among rows t i d (omega arith))
 
 -- records that are each as the list has them
 pub rows-are : (sheet : List ℕ) (rows : List Row) (k : ℕ) (d : Row) → ((i : ℕ) → i < length rows → rowAt sheet (k + i) ≡ getD rows i d) → rowsOf sheet k (length rows) ≡ rows
@@ -86,19 +86,19 @@ blank = record { kind = 0; number = 0; clock = 0 }
 pub length-after : (h : Heading) (rows : List Row) (s : List ℕ) → sheetNeeded (length rows) ≤ length s → length (sheetAfter h rows s) ≡ length s
 unfolding sheetAfter
 length-after h rows s fits =
-    length-splice s (headingBytes h ++ rowsBytes rows) 0 (20 + 12 * length rows) (simp (length-append, length-heading, length-rows) (omega arith)) fits
+    length-splice s (headingBytes h ++ rowsBytes rows) 0 (sheetNeeded (length rows)) (simp (length-append, length-heading, length-rows) (omega arith)) fits
 
 module _ (h : Heading) (rows : List Row) (s : List ℕ) where
   pub heading-back : headingOf (sheetAfter h rows s) ≡ h
   unfolding sheetAfter
-  heading-back = rw append-assoc (heading-here h (rowsBytes rows ++ drop (20 + 12 * length rows) s))
+  heading-back = rw append-assoc (heading-here h (rowsBytes rows ++ drop (sheetNeeded (length rows)) s))
 
   pub row-back : (k : ℕ) (d : Row) → 1 ≤ k → k ≤ length rows → rowAt (sheetAfter h rows s) k ≡ getD rows (k - 1) d
   unfolding sheetAfter
   row-back k d low high =
-      let rest : List ℕ = drop (20 + 12 * length rows) s in
+      let rest : List ℕ = drop (sheetNeeded (length rows)) s in
       rw append-assoc
-      (row-past (headingBytes h) (rowsBytes rows ++ rest) 20 (12 * (k - 1)) (length-heading h) ∙ row-among rows rest (k - 1) d (omega arith))
+      (row-past (headingBytes h) (rowsBytes rows ++ rest) headerBytes (recordBytes * (k - 1)) (length-heading h) ∙ row-among rows rest (k - 1) d (omega arith))
 
   pub rows-back : rowsOf (sheetAfter h rows s) 1 (length rows) ≡ rows
   rows-back =
@@ -109,8 +109,8 @@ module _ (h : Heading) (rows : List Row) (s : List ℕ) where
   pub prefix-after : take (sheetNeeded (length rows)) (sheetAfter h rows s) ≡ sheetAfter h rows []
   unfolding sheetAfter
   prefix-after =
-      take-at (headingBytes h ++ rowsBytes rows) (drop (20 + 12 * length rows) s) (20 + 12 * length rows) (simp (length-append, length-heading, length-rows))
-      ∙ rw (drop-nil (20 + 12 * length rows), append-nil)
+      take-at (headingBytes h ++ rowsBytes rows) (drop (sheetNeeded (length rows)) s) (sheetNeeded (length rows)) (simp (length-append, length-heading, length-rows))
+      ∙ rw (drop-nil (sheetNeeded (length rows)), append-nil)
 
   pub length-prefix : length (take (sheetNeeded (length rows)) (sheetAfter h rows s)) ≡ sheetNeeded (length rows)
   unfolding sheetAfter
@@ -127,7 +127,7 @@ module _ (h : Heading) (rows : List Row) (s : List ℕ) where
 pub whole-sheet : (sheet : List ℕ) → torn sheet ≡ false → Whole sheet
 unfolding torn
 whole-sheet sheet e =
-    let short : Bool = ltb (length sheet) 20 in
+    let short : Bool = ltb (length sheet) headerBytes in
     let many : Bool = ltb mostMoves (headingOf sheet .moves) in
     let other : Bool = not (eqb (length sheet) (sheetNeeded (headingOf sheet .moves))) in
     let whole = or-false {a = short} {b = many || other} e in

@@ -15,6 +15,16 @@ use Rattle.sheets.specs.declared.Row.{Row}
 unfoldable pub wordBytes : ℕ → List ℕ
 wordBytes w = w % 256 ∷ w / 256 % 256 ∷ w / 65536 % 256 ∷ w / 16777216 ∷ []
 
+-- the bytes of the header, of a record, and of a sheet of m moves
+abbrev pub headerBytes : ℕ
+headerBytes = 20
+
+abbrev pub recordBytes : ℕ
+recordBytes = 12
+
+abbrev pub sheetNeeded : ℕ → ℕ
+sheetNeeded m = headerBytes + recordBytes * m
+
 -- the header, five words: moves M, arrival, spell, shift, N
 unfoldable pub headingBytes : Heading → List ℕ
 headingBytes h =
@@ -42,19 +52,15 @@ rowsBytes (row ∷ rows) = rowBytes row ++ rowsBytes rows
 abbrev pub rowAt : List ℕ → ℕ → Row
 rowAt sheet k =
     record {
-      kind = wordAt sheet (20 + 12 * (k - 1));
-      number = wordAt sheet (20 + 12 * (k - 1) + 4);
-      clock = wordAt sheet (20 + 12 * (k - 1) + 8);
+      kind = wordAt sheet (sheetNeeded (k - 1));
+      number = wordAt sheet (sheetNeeded (k - 1) + 4);
+      clock = wordAt sheet (sheetNeeded (k - 1) + 8);
     }
 
 -- the n records from number k on
 unfoldable pub rowsOf : List ℕ → ℕ → ℕ → List Row
 rowsOf sheet k zero = []
 rowsOf sheet k (suc n) = rowAt sheet k ∷ rowsOf sheet (k + 1) n
-
--- the bytes of a sheet of m moves
-abbrev pub sheetNeeded : ℕ → ℕ
-sheetNeeded m = 20 + 12 * m
 
 abbrev pub mostMoves : ℕ
 mostMoves = 999999
@@ -65,15 +71,15 @@ sheetAfter h rows before = headingBytes h ++ rowsBytes rows ++ drop (sheetNeeded
 
 -- the sheet with its header alone written
 abbrev pub withHeading : List ℕ → Heading → List ℕ
-withHeading sheet h = headingBytes h ++ drop 20 sheet
+withHeading sheet h = headingBytes h ++ drop headerBytes sheet
 
 -- the part of the sheet behind its header, with record k alone written
 abbrev pub withRowBehind : List ℕ → ℕ → Row → List ℕ
-withRowBehind part k row = take (12 * (k - 1)) part ++ rowBytes row ++ drop (12 * k) part
+withRowBehind part k row = take (recordBytes * (k - 1)) part ++ rowBytes row ++ drop (recordBytes * k) part
 
 -- the sheet with record k alone written
 abbrev pub withRow : List ℕ → ℕ → Row → List ℕ
-withRow sheet k row = take (20 + 12 * (k - 1)) sheet ++ rowBytes row ++ drop (20 + 12 * k) sheet
+withRow sheet k row = take (sheetNeeded (k - 1)) sheet ++ rowBytes row ++ drop (sheetNeeded k) sheet
 
 -- 14 short sheet: under 20 + 12M; bytes needed
 abbrev pub shortSheet : ℕ → ℕ → Option ℕ
@@ -82,7 +88,7 @@ shortSheet moves length = placed (ltb length (sheetNeeded moves)) (sheetNeeded m
 -- 15 torn sheet: under 20, M above 999,999, or not 20 + 12M; length
 unfoldable pub torn : List ℕ → Bool
 torn sheet =
-    ltb (length sheet) 20
+    ltb (length sheet) headerBytes
     || (ltb mostMoves (headingOf sheet .moves) || not (eqb (length sheet) (sheetNeeded (headingOf sheet .moves))))
 
 abbrev pub tornSheet : List ℕ → Option ℕ

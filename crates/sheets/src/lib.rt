@@ -1,9 +1,9 @@
 // The plan sheet: five words of header, then records of three words. A move's record is written
 // into the part of the sheet behind its header.
 ghost use mathlib.Core.Path.{_≡_};
-ghost use Prim.Native.Nat.{_+_, _*_, _≤_};
+ghost use Prim.Native.Nat.{_*_, _≤_};
 ghost use lib.ListN.{length};
-ghost use Rattle.sheets.specs.Sheet.{headingOf, rowAt, torn, withHeading, withRowBehind, withRow};
+ghost use Rattle.sheets.specs.Sheet.{headerBytes, recordBytes, sheetNeeded, headingOf, rowAt, torn, withHeading, withRowBehind, withRow};
 use words::put_word;
 use words::word;
 
@@ -17,6 +17,8 @@ pub struct Heading {
 }
 
 impl Heading {
+    pub const BYTES: usize = 20;
+
     pub const MOST_MOVES: u32 = 999999;
 }
 
@@ -27,8 +29,19 @@ pub struct Row {
     pub clock: u32,
 }
 
+impl Row {
+    pub const BYTES: usize = 12;
+}
+
+// The bytes of a sheet of so many moves.
+pub fn sheet_needed(moves: u32) -> usize
+    ensures { λ r. ⌜ r ≡ sheetNeeded moves ⌝ }
+{
+    Heading::BYTES + Row::BYTES * (moves as usize)
+}
+
 pub fn read_heading(sheet: &[u8]) -> Heading
-    requires { ⌜ 20 ≤ length (now sheet) ⌝ }
+    requires { ⌜ headerBytes ≤ length (now sheet) ⌝ }
     ensures { λ r. ⌜ r ≡ headingOf (now (sheet .entry)) ⌝ }
 {
     Heading {
@@ -42,10 +55,10 @@ pub fn read_heading(sheet: &[u8]) -> Heading
 
 // Record k, counted from 1.
 pub fn read_row(sheet: &[u8], k: usize) -> Row
-    requires { ⌜ (1 ≤ k) × (20 + 12 * k ≤ length (now sheet)) ⌝ }
+    requires { ⌜ (1 ≤ k) × (sheetNeeded k ≤ length (now sheet)) ⌝ }
     ensures { λ r. ⌜ r ≡ rowAt (now (sheet .entry)) k ⌝ }
 {
-    let at = 20 + 12 * (k - 1);
+    let at = Heading::BYTES + Row::BYTES * (k - 1);
     Row {
         kind: word(sheet, at),
         number: word(sheet, at + 4),
@@ -57,18 +70,18 @@ pub fn read_row(sheet: &[u8], k: usize) -> Row
 pub fn is_torn(sheet: &[u8]) -> bool
     ensures { λ r. ⌜ r ≡ torn (now (sheet .entry)) ⌝ }
 {
-    if sheet.len() < 20 {
+    if sheet.len() < Heading::BYTES {
         return true;
     }
     let moves = word(sheet, 0);
     if Heading::MOST_MOVES < moves {
         return true;
     }
-    sheet.len() != 20 + 12 * (moves as usize)
+    sheet.len() != sheet_needed(moves)
 }
 
 pub fn put_heading(sheet: &mut [u8], heading: Heading)
-    requires { ⌜ 20 ≤ length (now sheet) ⌝ }
+    requires { ⌜ headerBytes ≤ length (now sheet) ⌝ }
     ensures { λ _. ⌜ now (sheet .exit) ≡ withHeading (now (sheet .entry)) heading ⌝ }
 {
     put_word(sheet, 0, heading.moves);
@@ -80,10 +93,10 @@ pub fn put_heading(sheet: &mut [u8], heading: Heading)
 
 // Writes record k, counted from 1, into the part of a sheet behind its header.
 pub fn put_row(part: &mut [u8], k: usize, row: Row)
-    requires { ⌜ (1 ≤ k) × (12 * k ≤ length (now part)) ⌝ }
+    requires { ⌜ (1 ≤ k) × (recordBytes * k ≤ length (now part)) ⌝ }
     ensures { λ _. ⌜ now (part .exit) ≡ withRowBehind (now (part .entry)) k row ⌝ }
 {
-    let at = 12 * (k - 1);
+    let at = Row::BYTES * (k - 1);
     put_word(part, at, row.kind);
     put_word(part, at + 4, row.number);
     put_word(part, at + 8, row.clock);
@@ -91,8 +104,8 @@ pub fn put_row(part: &mut [u8], k: usize, row: Row)
 
 // Writes record k, counted from 1, into a sheet.
 pub fn write_row(sheet: &mut [u8], k: usize, row: Row)
-    requires { ⌜ (1 ≤ k) × (20 + 12 * k ≤ length (now sheet)) ⌝ }
+    requires { ⌜ (1 ≤ k) × (sheetNeeded k ≤ length (now sheet)) ⌝ }
     ensures { λ _. ⌜ now (sheet .exit) ≡ withRow (now (sheet .entry)) k row ⌝ }
 {
-    put_row(&mut sheet[20..], k, row);
+    put_row(&mut sheet[Heading::BYTES..], k, row);
 }

@@ -1,6 +1,7 @@
 -- The records are read in turn, each within the sheet. Assumes nothing.
 use Prim.Native.Nat.{_+_, _-_, _≤_}
 use borrow.Author.Needs.{needs}
+use borrow.Author.Tests.{leb-true}
 use Rattle.plan.proofs.put_moves.Statement.{statement}
 use Rattle.plan.proofs.put_moves.Tie as tie
 
@@ -9,6 +10,11 @@ Inv-loop page₀ map run sheet moves end₀ k₀ page end k = 1 ≤ k
 
 abbrev μ-loop : tie.MeasureT-loop
 μ-loop page₀ map run sheet moves end₀ k₀ page end k = moves + 1 - k
+
+read-row-requires : tie.Need-read-row-requires Inv-loop μ-loop
+read-row-requires c κs =
+    let needed = c .before in
+    (needed .before .before .loop .inv, rw (← needed .sheet-needed .ensures) (leb-true _ _ (c .if1 .taken)))
 
 pub put-moves-spec : {M : Type 1} → statement M
 put-moves-spec =
@@ -20,8 +26,8 @@ put-moves-spec =
     (λ c. search needs)
     (λ c. search needs)
     (λ c. search needs)
-    (λ c. search needs)
     (λ c κs. search needs)
+    read-row-requires
     (λ c κs. search needs)
     (λ c. search needs)
     (λ c. search needs)

@@ -19,31 +19,31 @@ few-moves c =
     let a = s .args in
     omega (arith, s .pre .1, c .count-moves .ensures (a .map .now) (a .run) (s .pre .0), moves-below (a .map .now) (a .run) (a .words .now) (a .n) (s .pre .0))
 
-mul-needed : tie.Need-mul-needed
-mul-needed c = omega (arith, few-moves c)
-
-add-needed : tie.Need-add-needed
-add-needed c = omega (arith, few-moves c)
+cast-sheet-needed : tie.Need-cast-sheet-needed
+cast-sheet-needed c = omega (arith, few-moves c)
 
 returns : tie.Need-returns
 returns c =
-    let s = c .before .before .before .before .before in
+    let counted = c .before .before in
+    let s = counted .before .before .before .before in
     let a = s .args in
-    handed-short (a .map .now) (a .run) (a .words .now) (a .n) (s .pre .0) (c .before .count-moves .result) (c .before .count-moves .ensures (a .map .now) (a .run) (s .pre .0)) (a .sheet .now) (c .if1 .taken)
+    handed-short (a .map .now) (a .run) (a .words .now) (a .n) (s .pre .0) (counted .count-moves .result) (counted .count-moves .ensures (a .map .now) (a .run) (s .pre .0)) (a .sheet .now) (c .before .sheet-needed .result) (c .before .sheet-needed .ensures) (c .if1 .taken)
 
 write-plan-requires : tie.Need-write-plan-requires
 write-plan-requires c κs =
-    let s = c .before .before .before .before .before .before in
+    let needed = c .before .before in
+    let counted = needed .before in
+    let s = counted .before .before .before .before in
     let a = s .args in
-    (s .pre .0, (s .pre .1, (c .before .before .count-moves .ensures (a .map .now) (a .run) (s .pre .0), c .before .if1 .left)))
+    (s .pre .0, (s .pre .1, (counted .count-moves .ensures (a .map .now) (a .run) (s .pre .0), rw (← needed .sheet-needed .ensures) (c .before .if1 .left))))
 
 pub hand-back-spec : {M : Type 1} → statement M
 hand-back-spec =
     tie.close
     (tie.spec
     count-moves-requires
-    mul-needed
-    add-needed
+    cast-sheet-needed
+    (λ c κs. search needs)
     returns
     write-plan-requires
     (λ c. search needs)

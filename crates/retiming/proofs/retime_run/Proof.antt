@@ -31,7 +31,7 @@ returns c =
     let read = c .before .before in
     let reached = read .before in
     let args = reached .before .before .before .before .before .before .before .args in
-    retimed-short (args .map .now) (args .run .order) (args .sheet .now) (args .out .now) (reached .before .judged2 .given .0 .0) (ended reached) (read .read-heading .result) (read .read-heading .ensures) (c .if1 .taken)
+    retimed-short (args .map .now) (args .run .order) (args .sheet .now) (args .out .now) (reached .before .judged2 .given .0 .0) (ended reached) (read .read-heading .result) (read .read-heading .ensures) (c .before .sheet-needed .result) (c .before .sheet-needed .ensures) (c .if1 .taken)
 
 write-rows-requires : tie.Need-write-rows-requires
 write-rows-requires c κs =
@@ -39,7 +39,7 @@ write-rows-requires c κs =
     let reached = read .before in
     let start = reached .before .before .before .before .before .before .before in
     let judged = ended reached in
-    (start .pre, (judged .0, (says-ends (timing false (start .args .map .now) (start .args .run .order) (start .args .sheet .now)) (reached .before .judged2 .given .0 .0) (judged .2), rw (← ap (λ (h : Heading). h .moves) (read .read-heading .ensures)) (c .before .if1 .left))))
+    (start .pre, (judged .0, (says-ends (timing false (start .args .map .now) (start .args .run .order) (start .args .sheet .now)) (reached .before .judged2 .given .0 .0) (judged .2), rw (← ap (λ (h : Heading). h .moves) (read .read-heading .ensures), ← c .before .before .sheet-needed .ensures) (c .before .if1 .left))))
 
 returns-2 : tie.Need-returns-2
 returns-2 c =
@@ -56,7 +56,7 @@ returns-3 c =
     let read = chosen .before .before in
     let reached = read .before in
     let args = reached .before .before .before .before .before .before .before .args in
-    retimed-written (args .map .now) (args .run .order) (args .sheet .now) (args .out .now) (reached .before .judged2 .given .0 .0) (ended reached) (read .read-heading .result) (read .read-heading .ensures) (chosen .if1 .left) (put .put-heading .last .0)
+    retimed-written (args .map .now) (args .run .order) (args .sheet .now) (args .out .now) (reached .before .judged2 .given .0 .0) (ended reached) (read .read-heading .result) (read .read-heading .ensures) (chosen .before .sheet-needed .result) (chosen .before .sheet-needed .ensures) (chosen .if1 .left) (put .put-heading .last .0)
     (put .put-heading .ensures ∙ ap (λ (l : List ℕ). withHeading l (retimedHeading (read .read-heading .result) (reached .before .judged2 .given .0 .0))) (wrote .write-rows .ensures))
 
 pub retime-run-spec : {M : Type 1} → statement M
@@ -67,9 +67,7 @@ retime-run-spec =
     (λ c. search needs)
     (λ c. search needs)
     read-heading-requires
-    (λ c. search needs)
-    (λ c. search needs)
-    (λ c. search needs)
+    (λ c κs. search needs)
     returns
     write-rows-requires
     (λ c κs. search needs)

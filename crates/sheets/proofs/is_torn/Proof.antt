@@ -15,9 +15,9 @@ returns-2 c = simp (le-ltb _ _ (c .before .before .if1 .left), ← c .before .wo
 
 returns-3 : tie.Need-returns-3
 unfolding torn
-returns-3 c = simp (le-ltb _ _ (c .before .before .if1 .left), ← c .before .word .ensures, le-ltb _ _ (c .if2 .left))
+returns-3 c =
+    let few = c .before in
+    simp (le-ltb _ _ (few .before .before .if1 .left), ← few .before .word .ensures, le-ltb _ _ (few .if2 .left), ← c .sheet-needed .ensures)
 
 pub is-torn-spec : {M : Type 1} → statement M
-is-torn-spec =
-    tie.close
-    (tie.spec returns (λ c κs. search needs) returns-2 (λ c. search needs) (λ c. search needs) (λ c. search needs) returns-3)
+is-torn-spec = tie.close (tie.spec returns (λ c κs. search needs) returns-2 (λ c κs. search needs) returns-3)
