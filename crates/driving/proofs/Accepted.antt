@@ -14,7 +14,7 @@ use Rattle.replies.proofs.First.{Numbered}
 use Rattle.driving.specs.declared.Order.{Order}
 use Rattle.driving.specs.declared.Figures.{Figures}
 use Rattle.driving.specs.declared.Rules.{Rules}
-use Rattle.driving.specs.Order.{Rule, firstBroken, europeanRules, limitRules, endRules, figureRules, badOrder, badRules, badFigures, badTrip, orderOf, orderTests}
+use Rattle.driving.specs.Order.{Rule, firstBroken, europeanRules, limitRules, endRules, figureRules, badOrder, badRules, badFigures, badTrip, orderBytes, orderOf, orderTests}
 use Rattle.driving.specs.Accepted.{SoundRules, SoundFigures, AcceptedOrder}
 
 -- every rule of the list is kept
@@ -102,17 +102,17 @@ sound-trip-passes junctions o s =
 pub order-numbered : (junctions : ℕ) (bytes : List ℕ) → Numbered (orderTests junctions bytes)
 order-numbered junctions bytes = (lit≤ tt, (lit≤ tt, (lit≤ tt, tt)))
 
-pub order-length : (bytes : List ℕ) → badOrder bytes ≡ none → length bytes ≡ 40
+pub order-length : (bytes : List ℕ) → badOrder bytes ≡ none → length bytes ≡ orderBytes
 order-length bytes e =
     ⊎-elim
-    (λ (same : eqb (length bytes) 40 ≡ true). eqb-true _ _ same)
-    (λ (other : eqb (length bytes) 40 ≡ false). absurd (some-not-none (simp other at e)))
-    (cases (eqb (length bytes) 40))
+    (λ (same : eqb (length bytes) orderBytes ≡ true). eqb-true _ _ same)
+    (λ (other : eqb (length bytes) orderBytes ≡ false). absurd (some-not-none (simp other at e)))
+    (cases (eqb (length bytes) orderBytes))
 
 -- the order check passes exactly the orders of 40 bytes whose words keep every rule
 pub order-accepted : (junctions : ℕ) (bytes : List ℕ) → NoneFits (orderTests junctions bytes) → AcceptedOrder junctions (orderOf bytes)
 order-accepted junctions bytes passed = order-sound junctions (orderOf bytes) (passed .1 .0) (passed .1 .1 .0)
 
-pub accepted-passes : (junctions : ℕ) (bytes : List ℕ) → length bytes ≡ 40 → AcceptedOrder junctions (orderOf bytes) → NoneFits (orderTests junctions bytes)
+pub accepted-passes : (junctions : ℕ) (bytes : List ℕ) → length bytes ≡ orderBytes → AcceptedOrder junctions (orderOf bytes) → NoneFits (orderTests junctions bytes)
 accepted-passes junctions bytes long s =
-    (simp (eq-eqb (length bytes) 40 long), (sound-rules-pass (orderOf bytes .rules) (s .sound-rules), (sound-trip-passes junctions (orderOf bytes) s, tt)))
+    (simp (eq-eqb (length bytes) orderBytes long), (sound-rules-pass (orderOf bytes .rules) (s .sound-rules), (sound-trip-passes junctions (orderOf bytes) s, tt)))

@@ -13,7 +13,7 @@ use Rattle.replies.specs.declared.Refusal.{Refusal}
 use Rattle.replies.specs.Told.{succeeded, refusedAt, toldRefusal, toldCheck}
 use Rattle.replies.specs.First.{_at_, firstOf}
 use Rattle.driving.specs.declared.Order.{Order}
-use Rattle.driving.specs.Order.{Rule, firstBroken, endRules, figureRules, badEnds, badFigures, badTrip, badRules, orderOf, orderTests}
+use Rattle.driving.specs.Order.{Rule, firstBroken, endRules, figureRules, badEnds, badFigures, badTrip, badRules, orderBytes, orderOf, orderTests}
 use Rattle.driving.specs.Steps.{ruledBy}
 
 -- a check, and the rules of the list, of which a broken one is refused by its word
@@ -54,6 +54,6 @@ unfolding badTrip badEnds badFigures
 trip-parts junctions o success = sym (two-lists 11 (endRules junctions o) (figureRules (o .figures) (o .rules)) success)
 
 -- an order of 40 bytes is checked by its rules, and then by its trip
-pub order-parts : (junctions : ℕ) (bytes : List ℕ) (o : Order) (success : Reply) → length bytes ≡ 40 → o ≡ orderOf bytes → firstOf ((10 at badRules (o .rules)) ∷ (11 at badTrip junctions o) ∷ []) success ≡ firstOf (orderTests junctions bytes) success
+pub order-parts : (junctions : ℕ) (bytes : List ℕ) (o : Order) (success : Reply) → length bytes ≡ orderBytes → o ≡ orderOf bytes → firstOf ((10 at badRules (o .rules)) ∷ (11 at badTrip junctions o) ∷ []) success ≡ firstOf (orderTests junctions bytes) success
 unfolding firstOf
-order-parts junctions bytes o success long read = rw read (simp (eq-eqb (length bytes) 40 long))
+order-parts junctions bytes o success long read = rw read (simp (eq-eqb (length bytes) orderBytes long))

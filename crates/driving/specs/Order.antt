@@ -21,6 +21,10 @@ europeanRules =
       «rest_time» = record { 0 = 39600 };
     }
 
+-- the bytes of an order
+abbrev pub orderBytes : ℕ
+orderBytes = 40
+
 -- word k of an order
 abbrev pub orderWord : List ℕ → ℕ → ℕ
 orderWord bytes k = wordAt bytes (4 * k)
@@ -90,7 +94,7 @@ figureRules f r =
 
 -- refusal 9, bad order: not 40 bytes
 abbrev pub badOrder : List ℕ → Option ℕ
-badOrder bytes = placed (not (eqb (length bytes) 40)) (length bytes)
+badOrder bytes = placed (not (eqb (length bytes) orderBytes)) (length bytes)
 
 -- refusal 10, bad rules: words 6 to 9
 unfoldable pub badRules : Rules → Option ℕ

@@ -5,7 +5,7 @@ ghost use lib.ListN.{length};
 ghost use Rattle.replies.specs.Told.{succeeded, toldCheck};
 ghost use Rattle.replies.specs.First.{_at_, firstOf};
 ghost use Rattle.driving.specs.Steps.{firstRefused, ruledBy};
-ghost use Rattle.driving.specs.Order.{europeanRules, orderOf, badRules, badEnds, badFigures, badTrip, orderTests};
+ghost use Rattle.driving.specs.Order.{europeanRules, orderBytes, orderOf, badRules, badEnds, badFigures, badTrip, orderTests};
 use replies::Check;
 use replies::Refusal;
 use seconds::Clock;
@@ -57,8 +57,12 @@ pub struct Order {
     pub rules: Rules,
 }
 
+impl Order {
+    pub const BYTES: usize = 40;
+}
+
 fn read_figures(bytes: &[u8]) -> Figures
-    requires { ⌜ length (now bytes) ≡ 40 ⌝ }
+    requires { ⌜ length (now bytes) ≡ orderBytes ⌝ }
     ensures { λ r. ⌜ r ≡ orderOf (now (bytes .entry)) .figures ⌝ }
 {
     Figures {
@@ -68,7 +72,7 @@ fn read_figures(bytes: &[u8]) -> Figures
 }
 
 fn read_rules(bytes: &[u8]) -> Rules
-    requires { ⌜ length (now bytes) ≡ 40 ⌝ }
+    requires { ⌜ length (now bytes) ≡ orderBytes ⌝ }
     ensures { λ r. ⌜ r ≡ orderOf (now (bytes .entry)) .rules ⌝ }
 {
     Rules {
@@ -81,7 +85,7 @@ fn read_rules(bytes: &[u8]) -> Rules
 
 // The order that its forty bytes spell.
 pub fn read_order(bytes: &[u8]) -> Order
-    requires { ⌜ length (now bytes) ≡ 40 ⌝ }
+    requires { ⌜ length (now bytes) ≡ orderBytes ⌝ }
     ensures { λ r. ⌜ r ≡ orderOf (now (bytes .entry)) ⌝ }
 {
     Order {
@@ -175,7 +179,7 @@ pub fn check_trip(order: Order, junctions: u32) -> Check
 pub fn check_order(bytes: &[u8], junctions: u32) -> Check
     ensures { λ r. ⌜ toldCheck r ≡ firstOf (orderTests junctions (now (bytes .entry))) (succeeded 0 0) ⌝ }
 {
-    if bytes.len() != 40 {
+    if bytes.len() != Order::BYTES {
         return Check::Refused(Refusal::BadOrder(bytes.len()));
     }
     let order = read_order(bytes);
