@@ -10,7 +10,7 @@ use Rattle.booleans.proofs.Tests.{some-not-none, or-false}
 use Rattle.replies.specs.declared.Refusal.the-variants.{ShortMap, StrangeMap, Oversize, Misfit}
 use Rattle.replies.specs.First.{firstOf, placed, NoneFits, Refuses}
 use Rattle.roadmap.specs.declared.Sizes.{Sizes}
-use Rattle.roadmap.specs.Format.{format, junctionCount, roadCount, nameBytes, lengthNeeded, mostJunctions, mostRoads, mostNameBytes}
+use Rattle.roadmap.specs.Format.{format, mapHeaderBytes, junctionCount, roadCount, nameBytes, lengthNeeded, mostJunctions, mostRoads, mostNameBytes}
 use Rattle.mapcheck.specs.MapCheck.{outside, orElse, oversizeCounts, oversize, sizeTests}
 
 -- a number that is not outside a range is within it
@@ -58,11 +58,11 @@ module _ (map : List ℕ) where
   unfolding oversize
   judged-counts sizes is-j is-r is-l judged = rw (← is-j, ← is-r, ← is-l) (sym judged)
 
-  pub refuses-short : length map < 16 → Refuses (sizeTests map) (ShortMap (length map))
+  pub refuses-short : length map < mapHeaderBytes → Refuses (sizeTests map) (ShortMap (length map))
   unfolding firstOf
   refuses-short short rest success = rw (lt-ltb _ _ short)
 
-  module _ (long : 16 ≤ length map) where
+  module _ (long : mapHeaderBytes ≤ length map) where
     pub refuses-strange : (format map ≡ 1 → ⊥) → Refuses (sizeTests map) StrangeMap
     unfolding firstOf
     refuses-strange strange rest success = rw (le-ltb _ _ long, ne-eqb _ _ strange)

@@ -12,7 +12,7 @@ use Rattle.replies.proofs.First.{passed-over}
 use Rattle.roadmap.specs.declared.Junction.{Junction}
 use Rattle.roadmap.specs.declared.Road.{Road}
 use Rattle.roadmap.specs.declared.Sizes.{Sizes}
-use Rattle.roadmap.specs.Format.{HasSizes, nameBytes, namesAt, junctionOf, roadOf}
+use Rattle.roadmap.specs.Format.{HasSizes, mapHeaderBytes, junctionBytes, roadBytes, nameBytes, namesAt, junctionOf, roadOf}
 use Rattle.mapcheck.specs.MapCheck.{badJunctionFields, badJunctionAt, badRoadFields, badRoadAt, badJunction, badRoad, badLetterAt, badLettering}
 use Rattle.mapcheck.specs.Found.{lateTests, contentTests}
 
@@ -33,10 +33,10 @@ module _ (links : Bool) (map : List ℕ) (sizes : Sizes) (i : ℕ) (has : HasSiz
 
 -- the letters are all that follows the roads
 pub judged-letters : (map : List ℕ) (sizes : Sizes) → HasSizes map sizes → {fault : Option ℕ} →
-    let from = 16 + 16 * sizes .junctions + 20 * sizes .roads in
+    let from = mapHeaderBytes + junctionBytes * sizes .junctions + roadBytes * sizes .roads in
     fault ≡ lowest (badLetterAt map) from (length map - from) → badLettering map ≡ fault
 judged-letters map sizes has judged =
-    let from : 16 + 16 * sizes .junctions + 20 * sizes .roads ≡ namesAt map = omega (arith, has) in
+    let from : mapHeaderBytes + junctionBytes * sizes .junctions + roadBytes * sizes .roads ≡ namesAt map = omega (arith, has) in
     let count : length map - namesAt map ≡ nameBytes map = omega (arith, has) in
     sym (rw (from, count) at judged)
 

@@ -10,7 +10,7 @@ use Rattle.replies.specs.First.{firstOf, NoneFits, Tried}
 use Rattle.replies.specs.Told.{succeeded, toldCheck}
 use Rattle.replies.proofs.First.{tried}
 use Rattle.roadmap.specs.declared.Sizes.{Sizes}
-use Rattle.roadmap.specs.Format.{HasSizes, junctionCount, roadCount, nameBytes, lengthNeeded}
+use Rattle.roadmap.specs.Format.{HasSizes, mapHeaderBytes, junctionCount, roadCount, nameBytes, lengthNeeded}
 use Rattle.mapcheck.specs.MapCheck.{oversize, sizeTests, mapTests, chainingTests}
 use Rattle.mapcheck.proofs.Counts.{placed-none, in-range}
 
@@ -30,7 +30,7 @@ module _ (map : List ℕ) where
       told
 
   -- 1 to 4 leave a header
-  pub has-header : NoneFits (sizeTests map) → 16 ≤ length map
+  pub has-header : NoneFits (sizeTests map) → mapHeaderBytes ≤ length map
   has-header none = ltb-false _ _ (placed-none (length map) (none .0))
 
   -- a map as long as its counts need

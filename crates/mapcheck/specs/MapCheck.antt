@@ -8,7 +8,7 @@ use lib.ListN.{length, getD}
 use Rattle.replies.specs.First.{Test, _at_, placed, lowest, NoneFits}
 use Rattle.roadmap.specs.declared.Junction.{Junction}
 use Rattle.roadmap.specs.declared.Road.{Road}
-use Rattle.roadmap.specs.Format.{format, junctionCount, roadCount, nameBytes, mostJunctions, mostRoads, mostNameBytes, namesAt, lengthNeeded, junctionOf, roadOf}
+use Rattle.roadmap.specs.Format.{format, junctionCount, roadCount, nameBytes, mostJunctions, mostRoads, mostNameBytes, mapHeaderBytes, namesAt, lengthNeeded, junctionOf, roadOf}
 use Rattle.roadmap.specs.RoadTime.{mostMetres, leastSpeed, mostSpeed}
 use Rattle.mapcheck.specs.Chain.{brokenChainAt}
 
@@ -17,7 +17,7 @@ outside low high value = ltb value low || ltb high value
 
 -- 1 short map: under 16 bytes; length
 abbrev pub shortMap : List ℕ → Option ℕ
-shortMap map = placed (ltb (length map) 16) (length map)
+shortMap map = placed (ltb (length map) mapHeaderBytes) (length map)
 
 -- 2 strange map: format not 1; 0
 abbrev pub strangeMap : List ℕ → Option ℕ

@@ -174,7 +174,7 @@ fn oversize(sizes: Sizes) -> Found
 fn read_header(map: &[u8]) -> Header
     ensures { λ r. ⌜ HeaderSays (now (map .entry)) r ⌝ }
 {
-    if map.len() < 16 {
+    if map.len() < Sizes::HEADER_BYTES {
         return Header::Refused(Refusal::ShortMap(map.len()));
     }
     if roadmap::map_format(map) != 1 {
@@ -185,9 +185,9 @@ fn read_header(map: &[u8]) -> Header
     if let Found::At(offset) = fault {
         return Header::Refused(Refusal::Oversize(offset));
     }
-    let needed = 16
-        + 16 * (sizes.junctions as usize)
-        + 20 * (sizes.roads as usize)
+    let needed = Sizes::HEADER_BYTES
+        + Junction::BYTES * (sizes.junctions as usize)
+        + Road::BYTES * (sizes.roads as usize)
         + (sizes.names as usize);
     if map.len() != needed {
         return Header::Refused(Refusal::Misfit(needed));
@@ -270,7 +270,9 @@ fn check_letters(map: &[u8], sizes: Sizes) -> Check
     requires { ⌜ HasSizes (now map) sizes ⌝ }
     ensures { λ r. ⌜ toldCheck r ≡ firstOf (lateTests false (now (map .entry))) (succeeded 0 0) ⌝ }
 {
-    let from = 16 + 16 * (sizes.junctions as usize) + 20 * (sizes.roads as usize);
+    let from = Sizes::HEADER_BYTES
+        + Junction::BYTES * (sizes.junctions as usize)
+        + Road::BYTES * (sizes.roads as usize);
     let fault = bad_lettering(map, from);
     if let Found::At(place) = fault {
         return Check::Refused(Refusal::BadLettering(place));

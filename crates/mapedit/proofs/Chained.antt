@@ -15,7 +15,7 @@ use Rattle.booleans.proofs.Tests.{cases}
 use Rattle.words.proofs.Put.{Apart}
 use Rattle.replies.specs.First.{NoneFits}
 use Rattle.replies.proofs.First.{lowest-none, lowest-is-none}
-use Rattle.roadmap.specs.Format.{format, junctionCount, roadCount, nameBytes, namesAt, junctionAt, roadAt, lengthNeeded, junctionWord, roadWord, firstRoad, nextRoad, roadFrom}
+use Rattle.roadmap.specs.Format.{format, mapHeaderBytes, junctionCount, roadCount, nameBytes, namesAt, junctionAt, roadAt, lengthNeeded, junctionWord, roadWord, firstRoad, nextRoad, roadFrom}
 use Rattle.mapcheck.specs.Links.{MapLinks}
 use Rattle.mapcheck.specs.MapCheck.{oversize, badJunctionAt, badJunction, badNext, badRoadAt, badRoad, brokenChain, badLetterAt, badLettering, chainingTests, AcceptedMap}
 use Rattle.mapcheck.proofs.Counts.{placed-none, none-of-1-to-4}
@@ -150,7 +150,7 @@ module _ (map s : List ℕ) (kept : Kept map s) (fine : NoneFits (chainingTests 
 
   kept-accepted : AcceptedMap s
   kept-accepted =
-      let long : 16 ≤ length s = omega (arith, has-header map (unchained-sizes map fine), kept .size) in
+      let long : mapHeaderBytes ≤ length s = omega (arith, has-header map (unchained-sizes map fine), kept .size) in
       let whole : length s ≡ lengthNeeded s =
       omega (arith, has-whole map (unchained-sizes map fine), kept .size, kept .junctions, kept .roads, kept .names) in
       let sizes = none-of-1-to-4 s long kept-format not-oversize whole in (

@@ -12,7 +12,7 @@ use lib.ListN.{length, getD}
 use Rattle.booleans.proofs.Tests.{cases}
 use Rattle.words.specs.Word.{wordAt, putAt}
 use Rattle.roadmap.specs.declared.Sizes.{Sizes}
-use Rattle.roadmap.specs.Format.{HasSizes, format, junctionCount, roadCount, nameBytes, junctionAt, roadAt, lengthNeeded, junctionWord, roadWord, firstRoad, nextRoad, roadFrom}
+use Rattle.roadmap.specs.Format.{HasSizes, mapHeaderBytes, junctionBytes, roadBytes, format, junctionCount, roadCount, nameBytes, junctionAt, roadAt, lengthNeeded, junctionWord, roadWord, firstRoad, nextRoad, roadFrom}
 use Rattle.mapcheck.specs.Listed.{lowestFrom}
 use Rattle.mapedit.specs.Chaining.{putAll, firstLink, nextLink, nextAt, chained}
 use Rattle.mapedit.specs.Passes.{cleared, linkedBefore, FromKnown}
@@ -64,7 +64,7 @@ module _ (map : List ℕ) (whole : length map ≡ lengthNeeded map) (first next 
       ∙ put-all-word junctionAt first 1 (junctionCount map) map q firsts-fit firsts
 
   -- the header stays
-  header : (q : ℕ) → q + 4 ≤ 16 → wordAt after q ≡ wordAt map q
+  header : (q : ℕ) → q + 4 ≤ mapHeaderBytes → wordAt after q ≡ wordAt map q
   header q low = links-word q (λ i l h. inr (omega arith)) (λ i l h. inr (omega arith))
 
   pub links-format : format after ≡ format map
@@ -146,7 +146,7 @@ module _ (from : ℕ → ℕ) (r n : ℕ) where
 -- the links of a map with so many junctions and roads
 abbrev chainedBy : ℕ → ℕ → (ℕ → ℕ) → List ℕ → List ℕ
 chainedBy junctions roads from s =
-    putAll (λ r. 16 + 16 * junctions + 20 * (r - 1) + 16) (λ r. lowestFrom from (from r) (r + 1) (roads - r)) 1 roads
+    putAll (λ r. mapHeaderBytes + junctionBytes * junctions + roadBytes * (r - 1) + 16) (λ r. lowestFrom from (from r) (r + 1) (roads - r)) 1 roads
     (putAll junctionAt (λ j. lowestFrom from j 1 roads) 1 junctions s)
 
 module _ (s : List ℕ) where

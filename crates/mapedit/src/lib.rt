@@ -2,13 +2,15 @@
 ghost use mathlib.Core.Path.{_≡_};
 ghost use Prim.Native.Nat.{ℕ, _+_, _*_, _-_, _≤_};
 ghost use Rattle.replies.specs.Told.{toldName};
-ghost use Rattle.roadmap.specs.Format.{HasSizes, junctionAt};
+ghost use Rattle.roadmap.specs.Format.{HasSizes, mapHeaderBytes, junctionBytes, roadBytes, junctionAt};
 ghost use Rattle.mapedit.specs.Name.{nameReply, nameAt, namePart};
 ghost use Rattle.mapedit.specs.Chaining.{chained, ChainMaking};
 ghost use Rattle.mapedit.specs.Passes.{cleared, linkedBefore, FromKnown};
 use replies::Check;
 use replies::NameReply;
 use replies::Refusal;
+use roadmap::Junction;
+use roadmap::Road;
 use roadmap::Sizes;
 use words::put_word;
 
@@ -33,7 +35,9 @@ pub fn name_place(map: &[u8], junction: u32) -> usize
     ensures { λ r. ⌜ r ≡ nameAt (now (map .entry)) junction ⌝ }
 {
     let sizes = roadmap::sizes_of(map);
-    let names = 16 + 16 * (sizes.junctions as usize) + 20 * (sizes.roads as usize);
+    let names = Sizes::HEADER_BYTES
+        + Junction::BYTES * (sizes.junctions as usize)
+        + Road::BYTES * (sizes.roads as usize);
     names + (roadmap::name_start(map, sizes, junction) as usize)
 }
 
@@ -55,15 +59,18 @@ fn first_at(j: u32) -> usize
     requires { ⌜ 1 ≤ j ⌝ }
     ensures { λ r. ⌜ r ≡ junctionAt j ⌝ }
 {
-    16 + 16 * (j as usize - 1)
+    Sizes::HEADER_BYTES + Junction::BYTES * (j as usize - 1)
 }
 
 // Where a road's next stands.
 fn next_at(sizes: Sizes, r: u32) -> usize
     requires { ⌜ 1 ≤ r ⌝ }
-    ensures { λ w. ⌜ w ≡ 16 + 16 * sizes .junctions + 20 * (r - 1) + 16 ⌝ }
+    ensures { λ w. ⌜ w ≡ mapHeaderBytes + junctionBytes * sizes .junctions + roadBytes * (r - 1) + 16 ⌝ }
 {
-    16 + 16 * (sizes.junctions as usize) + 20 * (r as usize - 1) + 16
+    Sizes::HEADER_BYTES
+        + Junction::BYTES * (sizes.junctions as usize)
+        + Road::BYTES * (r as usize - 1)
+        + 16
 }
 
 // Leaves every junction without a first road.

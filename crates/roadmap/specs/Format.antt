@@ -32,18 +32,28 @@ mostRoads = 262143
 abbrev pub mostNameBytes : ℕ
 mostNameBytes = 1048576
 
+-- the bytes of the header, of a junction and of a road
+abbrev pub mapHeaderBytes : ℕ
+mapHeaderBytes = 16
+
+abbrev pub junctionBytes : ℕ
+junctionBytes = 16
+
+abbrev pub roadBytes : ℕ
+roadBytes = 20
+
 -- then J junctions of 4 words, R roads of 5 words and L name bytes
 abbrev pub junctionAt : ℕ → ℕ
-junctionAt j = 16 + 16 * (j - 1)
+junctionAt j = mapHeaderBytes + junctionBytes * (j - 1)
 
 abbrev pub roadAt : List ℕ → ℕ → ℕ
-roadAt map r = 16 + 16 * junctionCount map + 20 * (r - 1)
+roadAt map r = mapHeaderBytes + junctionBytes * junctionCount map + roadBytes * (r - 1)
 
 abbrev pub namesAt : List ℕ → ℕ
-namesAt map = 16 + 16 * junctionCount map + 20 * roadCount map
+namesAt map = mapHeaderBytes + junctionBytes * junctionCount map + roadBytes * roadCount map
 
 abbrev pub lengthNeeded : List ℕ → ℕ
-lengthNeeded map = 16 + 16 * junctionCount map + 20 * roadCount map + nameBytes map
+lengthNeeded map = namesAt map + nameBytes map
 
 -- a junction: first road, car park, name start, name length
 unfoldable pub junctionWord : List ℕ → ℕ → ℕ → ℕ

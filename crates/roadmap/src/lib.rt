@@ -2,7 +2,7 @@
 ghost use mathlib.Core.Path.{_≡_};
 ghost use Prim.Native.Nat.{_+_, _≤_};
 ghost use lib.ListN.{length};
-ghost use Rattle.roadmap.specs.Format.{HasSizes, format, junctionCount, roadCount, nameBytes, junctionWord, roadWord, junctionOf, roadOf, firstRoad, carPark, nameStart, nameLength, roadFrom, roadTo, roadMetres, roadSpeed, nextRoad};
+ghost use Rattle.roadmap.specs.Format.{HasSizes, mapHeaderBytes, format, junctionCount, roadCount, nameBytes, junctionWord, roadWord, junctionOf, roadOf, firstRoad, carPark, nameStart, nameLength, roadFrom, roadTo, roadMetres, roadSpeed, nextRoad};
 ghost use Rattle.roadmap.specs.RoadTime.{roadSeconds, mostMetres, mostSpeed};
 use words::word;
 
@@ -14,6 +14,8 @@ pub struct Sizes {
 }
 
 impl Sizes {
+    pub const HEADER_BYTES: usize = 16;
+
     pub const MOST_JUNCTIONS: u32 = 65535;
 
     pub const MOST_ROADS: u32 = 262143;
@@ -30,6 +32,10 @@ pub struct Junction {
     pub length: u32,
 }
 
+impl Junction {
+    pub const BYTES: usize = 16;
+}
+
 // A road's five words.
 pub struct Road {
     pub from: u32,
@@ -40,6 +46,8 @@ pub struct Road {
 }
 
 impl Road {
+    pub const BYTES: usize = 20;
+
     pub const MOST_METRES: u32 = 2000000;
 
     pub const LEAST_SPEED: u32 = 5;
@@ -48,7 +56,7 @@ impl Road {
 }
 
 pub fn map_format(map: &[u8]) -> u32
-    requires { ⌜ 16 ≤ length (now map) ⌝ }
+    requires { ⌜ mapHeaderBytes ≤ length (now map) ⌝ }
     ensures { λ r. ⌜ r ≡ format (now (map .entry)) ⌝ }
 {
     word(map, 0)
@@ -56,7 +64,7 @@ pub fn map_format(map: &[u8]) -> u32
 
 // The header's counts, whatever they are.
 pub fn sizes_of(map: &[u8]) -> Sizes
-    requires { ⌜ 16 ≤ length (now map) ⌝ }
+    requires { ⌜ mapHeaderBytes ≤ length (now map) ⌝ }
     ensures { λ r. ⌜ (r .junctions ≡ junctionCount (now (map .entry))) × (r .roads ≡ roadCount (now (map .entry))) × (r .names ≡ nameBytes (now (map .entry))) ⌝ }
 {
     Sizes {
@@ -72,7 +80,10 @@ fn junction_word(map: &[u8], sizes: Sizes, j: u32, offset: usize) -> u32
     requires { ⌜ (1 ≤ j) × (j ≤ sizes .junctions) × (offset ≤ 12) ⌝ }
     ensures { λ r. ⌜ r ≡ junctionWord (now (map .entry)) j offset ⌝ }
 {
-    word(map, 16 + 16 * (j as usize - 1) + offset)
+    word(
+        map,
+        Sizes::HEADER_BYTES + Junction::BYTES * (j as usize - 1) + offset,
+    )
 }
 
 pub fn first_road(map: &[u8], sizes: Sizes, j: u32) -> u32
@@ -128,7 +139,10 @@ fn road_word(map: &[u8], sizes: Sizes, r: u32, offset: usize) -> u32
 {
     word(
         map,
-        16 + 16 * (sizes.junctions as usize) + 20 * (r as usize - 1) + offset,
+        Sizes::HEADER_BYTES
+            + Junction::BYTES * (sizes.junctions as usize)
+            + Road::BYTES * (r as usize - 1)
+            + offset,
     )
 }
 

@@ -5,7 +5,7 @@ use Prim.Native.Nat.{_+_, _*_}
 use native.Mathlib.Omega.{arith}
 use borrow.Author.Needs.{needs}
 use lib.ListN.{length}
-use Rattle.roadmap.specs.Format.{format, lengthNeeded}
+use Rattle.roadmap.specs.Format.{format, mapHeaderBytes, junctionBytes, roadBytes, lengthNeeded}
 use Rattle.mapcheck.specs.MapCheck.{oversize}
 use Rattle.mapcheck.specs.Found.{found}
 use Rattle.mapcheck.proofs.Counts.{in-range, judged-counts, refuses-short, refuses-strange, refuses-oversize, refuses-misfit, none-of-1-to-4}
@@ -23,7 +23,7 @@ judged c =
 
 needed : (c : tie.After-oversize) →
     let sizes = c .before .sizes-of .result in
-    16 + 16 * sizes .junctions + 20 * sizes .roads + sizes .names ≡ lengthNeeded (c .before .before .before .before .before .before .args .map .now)
+    mapHeaderBytes + junctionBytes * sizes .junctions + roadBytes * sizes .roads + sizes .names ≡ lengthNeeded (c .before .before .before .before .before .before .args .map .now)
 needed c = omega (arith, c .before .sizes-of .ensures)
 
 returns : tie.Need-returns
