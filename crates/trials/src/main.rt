@@ -14,6 +14,9 @@ use replies::Reply;
 // Room for all cases. Cases that fill it may have lost their end, and are refused.
 const CASE_BYTES: usize = 262144;
 
+// The five words of a case.
+const HEADER_BYTES: usize = 20;
+
 // Refusals below this number are given before the search, and leave the label space as it was.
 const FIRST_OF_SEARCH: u32 = 12;
 
@@ -235,7 +238,7 @@ fn run_case(cases: &mut [u8], n: usize, at: usize, space: &mut [u8], labels: &mu
     }
     let title = at + 2;
     let header = title + count_of(cases[at + 1]);
-    if n < header + 20 {
+    if n < header + HEADER_BYTES {
         return n;
     }
     let case = Case {
@@ -243,7 +246,7 @@ fn run_case(cases: &mut [u8], n: usize, at: usize, space: &mut [u8], labels: &mu
         number: words::word(cases, header),
         words: words::word(cases, header + 4),
     };
-    let map = header + 20;
+    let map = header + HEADER_BYTES;
     let order = map + (words::word(cases, header + 8) as usize);
     let sheet = order + (words::word(cases, header + 12) as usize);
     let end = sheet + (words::word(cases, header + 16) as usize);
