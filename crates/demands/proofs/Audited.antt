@@ -27,11 +27,10 @@ use Rattle.retiming.specs.Walk.{Walk, refused, reached, moveOf, trueRow, walk, 
 use Rattle.retiming.specs.Retiming.{movesOn, timing, sheetTests, falseFigures, falseHeader, auditTests, auditReply}
 use Rattle.retiming.proofs.Walking.{OneRow, stops, passes, one-row, walk-end, walk-moved}
 use Rattle.retiming.proofs.Rewriting.{cut}
-use Rattle.retiming.proofs.Audited.{never-reached, Met, met}
+use Rattle.retiming.proofs.Audited.{never-reached, Met, met, audit-numbered}
 use Rattle.journeys.specs.Journeys.{startIn, atTarget}
 use Rattle.journeys.specs.Planning.{tripFrom}
 use Rattle.demands.specs.Runs.{movesRead, HoldsJourney}
-use Rattle.demands.proofs.Refusals.{audit-numbered}
 use Rattle.demands.proofs.Retimed.{ends-at, Passed, walk-passed}
 
 -- where clocks are compared, the records that a walk passes over have their true clocks already

@@ -20,7 +20,6 @@ use Rattle.mapcheck.proofs.Tried.{has-whole, unchained-sizes}
 use Rattle.mapedit.specs.Chaining.{chained, chainingReply, afterChaining, ChainMaking}
 use Rattle.mapedit.proofs.Chained.{nothing-else, same-length, passes}
 use Rattle.demands.specs.LinkBytes.{InWord, LinkByte, of-first, of-next}
-use Rattle.demands.proofs.Refusals.{chaining-numbered}
 
 -- a byte that is none of a word's four lies apart from it
 apart : (at p : ℕ) → ¬ InWord at p → Apart at 4 p
@@ -40,7 +39,7 @@ module _ {map map′ : List ℕ} {answer : Check} (made : ChainMaking map map′
 
   none-fit : NoneFits (chainingTests map)
   unfolding chainingReply
-  none-fit = none-fitted (chainingTests map) (succeeded 0 0) (chaining-numbered map) number-0
+  none-fit = none-fitted (chainingTests map) (succeeded 0 0) tt number-0
 
   is-chained : map′ ≡ chained map
   unfolding afterChaining

@@ -8,7 +8,7 @@ use mathlib.Core.Logic.{_↔_}
 use Prim.Native.Nat.{ℕ, _+_, _≤_, _<_}
 use native.Mathlib.Omega.{arith}
 use borrow.Author.Tests.{ne-eqb}
-use lib.Dec.{T}
+use lib.Dec.{T, eqb}
 use lib.ListN.{length, drop, getD}
 use Rattle.replies.specs.declared.Check.{Check}
 use Rattle.replies.specs.declared.NameReply.{NameReply}
@@ -28,12 +28,14 @@ use Rattle.moves.specs.Trip.{Trip, tripOf}
 use Rattle.sheets.specs.declared.Heading.{Heading}
 use Rattle.sheets.specs.Sheet.{headingOf, sheetNeeded}
 use Rattle.retiming.specs.Retiming.{movesOn, timing, retimingTests, auditTests, auditReply, Retimed}
+use Rattle.theory.specs.Lists.{memb}
 use Rattle.journeys.specs.Journeys.{Journey, totalSeconds}
 use Rattle.journeys.specs.Ranked.{ranksNoHigher}
 use Rattle.journeys.specs.Labels.{labelCount}
 use Rattle.journeys.specs.Plan.{bytesNeeded}
-use Rattle.journeys.specs.Planning.{labelsThatFit, tripFrom, planTests, planReply}
+use Rattle.journeys.specs.Planning.{labelsThatFit, beforeSearch, tripFrom, planTests, planReply}
 use Rattle.journeys.specs.Compared.{EasierRun}
+use Rattle.retiming.proofs.Audited.{retiming-numbered, audit-numbered}
 use Rattle.journeys.proofs.Journeys.{leads-clock}
 use Rattle.journeys.proofs.Planning.{accepted-sound, sheet-refused, reply-any-fit, sheet-any-fit}
 use Rattle.planner.specs.Planned.{Planned}
@@ -41,7 +43,7 @@ use Rattle.demands.specs.Refused.{RepliesBy}
 use Rattle.demands.specs.Counted.{CountsLabels}
 use Rattle.demands.specs.Runs.{AcceptedRun, Plans, SaysFull, SaysNoRoad, movesRead, HoldsJourney, headerAndRecords, TimedAfresh}
 use Rattle.demands.specs.LinkBytes.{LinkByte}
-use Rattle.demands.proofs.Refusals.{replies-by, by-number, map-numbered, order-numbered, chaining-numbered, name-numbered, plan-numbered, retiming-numbered, audit-numbered}
+use Rattle.demands.proofs.Refusals.{replies-by, by-number}
 use Rattle.demands.proofs.Counted.{counts-labels}
 use Rattle.demands.proofs.Said.{accepted-by, full-said, full-place, no-road-said, no-road-place, plans-said, short-said}
 use Rattle.demands.proofs.Chained.{length-chained, chained-passes, chained-else}
@@ -58,16 +60,16 @@ use Rattle.demands.proofs.Afresh.{Afresh, afresh}
 -- "bad input gets its number and place from document 01": each refusal of the operation's list is told, with its place, exactly when it
 -- fits and none before it in the list does
 pub map-check-replies : (map : List ℕ) (answer : Check) → toldCheck answer ≡ firstOf (mapTests map) (succeeded 0 0) → RepliesBy (mapTests map) (toldCheck answer)
-map-check-replies map answer told = replies-by (mapTests map) _ refl (map-numbered map) told
+map-check-replies map answer told = replies-by (mapTests map) _ refl tt told
 
 pub order-check-replies : (junctions : ℕ) (order : List ℕ) (answer : Check) → toldCheck answer ≡ firstOf (orderTests junctions order) (succeeded 0 0) →
     RepliesBy (orderTests junctions order) (toldCheck answer)
-order-check-replies junctions order answer told = replies-by (orderTests junctions order) _ refl (order-numbered junctions order) told
+order-check-replies junctions order answer told = replies-by (orderTests junctions order) _ refl tt told
 
 pub name-replies : (map : List ℕ) (junction : ℕ) (answer : NameReply) → toldName answer ≡ nameReply map junction →
     RepliesBy (mapTests map ++ (20 at unknownName map junction) ∷ []) (toldName answer)
 unfolding nameReply
-name-replies map junction answer told = replies-by (mapTests map ++ (20 at unknownName map junction) ∷ []) _ refl (name-numbered map junction) told
+name-replies map junction answer told = replies-by (mapTests map ++ (20 at unknownName map junction) ∷ []) _ refl tt told
 
 pub audit-replies : (map order sheet : List ℕ) (answer : Timing) → toldTiming answer ≡ auditReply map order sheet →
     RepliesBy (auditTests map order sheet (timing true map (orderOf order) sheet)) (toldTiming answer)
@@ -89,7 +91,7 @@ module _ (map order sheet : List ℕ) (answer : Timing) (told : toldTiming answe
 module _ {map map′ : List ℕ} {answer : Check} (made : ChainMaking map map′ answer) where
   pub chain-making-replies : RepliesBy (chainingTests map) (toldCheck answer)
   unfolding chainingReply
-  chain-making-replies = replies-by (chainingTests map) _ refl (chaining-numbered map) (made .reply)
+  chain-making-replies = replies-by (chainingTests map) _ refl tt (made .reply)
 
   -- a refusal changes no map byte
   pub chain-making-leaves : ¬ (toldCheck answer .number ≡ 0) → map′ ≡ map
@@ -150,14 +152,15 @@ module _ {map order words words′ sheet sheet′ : List ℕ} {answer : Planning
 
   pub planning-replies : RepliesBy (planTests map order fit (length sheet)) (toldPlan answer)
   unfolding planReply
-  planning-replies = replies-by (planTests map order fit (length sheet)) _ refl (plan-numbered map order fit (length sheet)) (run .reply)
+  planning-replies = replies-by (planTests map order fit (length sheet)) _ refl tt (run .reply)
 
   -- "a refusal leaves the sheet's bytes untouched"
   pub planning-leaves : ¬ Plans answer → sheet′ ≡ sheet
   planning-leaves refused = run .bytes ∙ sheet-refused map order fit sheet (λ e. refused (ap (λ (r : Reply). r .number) (run .reply) ∙ e))
 
   wrote-plan : Plans answer → Wrote map order words sheet sheet′ answer
-  wrote-plan plans = wrote (accepted-by run (rw plans tt)) run plans
+  unfolding memb
+  wrote-plan plans = wrote (accepted-by run (rw plans refl)) run plans
 
   -- the sheet keeps its length
   pub planning-length : length sheet′ ≡ length sheet
@@ -167,8 +170,8 @@ module _ {map order words words′ sheet sheet′ : List ℕ} {answer : Planning
   pub planning-keeps : Plans answer → drop (sheetNeeded (movesOn sheet′)) sheet′ ≡ drop (sheetNeeded (movesOn sheet′)) sheet
   planning-keeps plans = rest-written (wrote-plan plans)
 
-  -- "the label space changes only once a search has begun": refusals 1 to 11 leave every word of it
-  pub planning-leaves-labels : 1 ≤ toldPlan answer .number → toldPlan answer .number ≤ 11 → words′ ≡ words
+  -- "the label space changes only once a search has begun": the refusals before it leave every word of it
+  pub planning-leaves-labels : T (memb eqb (toldPlan answer .number) beforeSearch) → words′ ≡ words
   planning-leaves-labels = run .kept
 
   -- DEMAND 2.
@@ -213,14 +216,16 @@ module _ {map order words words′ sheet sheet′ : List ℕ} {answer : Planning
 
   -- "full" is told with the labels that fit
   pub full-told : SaysFull answer → toldPlan answer .place ≡ fit
-  full-told full = full-place (accepted-by run (rw full tt)) run full
+  unfolding memb
+  full-told full = full-place (accepted-by run (rw full refl)) run full
 
   -- "The N that planning reports is that label count.": in the reply of a plan, in its sheet, and with "no road"
   pub count-planned : Plans answer → (toldPlan answer .place ≡ labelCount trip) × (headingOf sheet′ .labels ≡ labelCount trip)
   count-planned plans = let w = wrote-plan plans in (ap (λ (r : Reply). r .place) (w .told), ap (λ (h : Heading). h .labels) (heading-written w))
 
   pub count-no-road : SaysNoRoad answer → toldPlan answer .place ≡ labelCount trip
-  count-no-road no-road = no-road-place (accepted-by run (rw no-road tt)) run no-road
+  unfolding memb
+  count-no-road no-road = no-road-place (accepted-by run (rw no-road refl)) run no-road
 
 -- DEMAND 3.
 

@@ -1,24 +1,24 @@
 -- What planning says of an accepted map and order. Assumes nothing.
 use mathlib.Core.Path.{_≡_, refl, sym, ap, _∙_}
-use mathlib.Core.Bool.{Bool, true, false, _||_}
+use mathlib.Core.Bool.{Bool, true, false}
 use mathlib.Core.List.{List, _++_}
 use mathlib.Core.Logic.{⊎-elim, _↔_}
 use mathlib.Core.Option.{Option, none, some}
 use Prim.Native.Nat.{ℕ, _≤_, _<_}
 use native.Mathlib.Omega.{arith}
 use borrow.Author.Tests.{ltb-true, ltb-false}
-use lib.Dec.{T, eqb, ltb}
+use lib.Dec.{eqb, ltb}
 use lib.ListN.{length}
 use Rattle.booleans.proofs.Tests.{cases}
 use Rattle.replies.specs.declared.Reply.{Reply}
 use Rattle.replies.specs.declared.Planning.{Planning}
 use Rattle.replies.specs.First.{Test, firstOf}
 use Rattle.replies.specs.Told.{refusedAt, toldPlan}
-use Rattle.replies.proofs.First.{none-fits}
+use Rattle.replies.proofs.First.{none-fits, none-told}
 use Rattle.roadmap.specs.Format.{junctionCount}
 use Rattle.mapcheck.specs.MapCheck.{mapTests, AcceptedMap}
 use Rattle.driving.specs.Order.{orderTests}
-use Rattle.theory.specs.Lists.{every}
+use Rattle.theory.specs.Lists.{memb}
 use Rattle.moves.specs.declared.State.{State}
 use Rattle.moves.specs.declared.Move.{Move}
 use Rattle.moves.specs.Trip.{Trip}
@@ -26,30 +26,28 @@ use Rattle.moves.proofs.Rising.{SoundTrip}
 use Rattle.journeys.specs.Journeys.{Journey}
 use Rattle.journeys.specs.Labels.{answerIn, labelCount}
 use Rattle.journeys.specs.Plan.{bytesNeeded}
-use Rattle.journeys.specs.Planning.{labelsThatFit, tripFrom, searchTests, planned, planReply, searchReply}
+use Rattle.journeys.specs.Planning.{labelsThatFit, beforeSearch, tripFrom, searchTests, planned, planReply, searchReply}
 use Rattle.journeys.proofs.Labels.{none-answered, no-journey}
 use Rattle.journeys.proofs.Planning.{accepted-sound, reply-accepted, full-exactly, no-road-exactly, reply-full, reply-no-road, reply-short, reply-planned}
 use Rattle.planner.specs.Planned.{Planned}
 use Rattle.demands.specs.Runs.{AcceptedRun, Plans, SaysFull, SaysNoRoad}
-use Rattle.demands.proofs.Refusals.{none-numbered}
 
--- the numbers of the replies that follow a search
-abbrev searched : ℕ → Bool
-searched number = eqb number 0 || ltb 11 number
+abbrev early : ℕ → Bool
+early number = memb eqb number beforeSearch
 
--- they say that the map and the order are accepted
+-- a reply that follows a search says that the map and the order are accepted
 pub accepted-by : {map order words words′ sheet sheet′ : List ℕ} {answer : Planning} → Planned map order words words′ sheet sheet′ answer →
-    T (searched (toldPlan answer .number)) → AcceptedRun map order
-unfolding every planReply
+    early (toldPlan answer .number) ≡ false → AcceptedRun map order
+unfolding memb planReply
 accepted-by {map} {order} {words} {words′} {sheet} run late =
     let trip : Trip = tripFrom map order in
     let late-tests : List Test = searchTests trip (labelsThatFit (length words)) (length sheet) in
     let orders : List Test = orderTests (junctionCount map) order in
-    let told-late : T (searched (firstOf (mapTests map ++ (orders ++ late-tests)) (planned trip) .number)) = rw (run .reply) at late in
-    let mapped : AcceptedMap map = none-numbered searched (mapTests map) (orders ++ late-tests) (planned trip) tt told-late in
+    let told-late : early (firstOf (mapTests map ++ (orders ++ late-tests)) (planned trip) .number) ≡ false = rw (run .reply) at late in
+    let mapped : AcceptedMap map = none-told early (mapTests map) (orders ++ late-tests) (planned trip) tt told-late in
     record {
       mapped = mapped;
-      ordered = none-numbered searched orders late-tests (planned trip) tt (rw (none-fits (mapTests map) (orders ++ late-tests) (planned trip) mapped) at told-late);
+      ordered = none-told early orders late-tests (planned trip) tt (rw (none-fits (mapTests map) (orders ++ late-tests) (planned trip) mapped) at told-late);
     }
 
 module _ {map order words words′ sheet sheet′ : List ℕ} {answer : Planning}

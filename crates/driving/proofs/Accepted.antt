@@ -10,7 +10,6 @@ use lib.ListN.{length}
 use borrow.Author.Tests.{le-leb, leb-true, eq-eqb, eqb-true}
 use Rattle.booleans.proofs.Tests.{cases, some-not-none}
 use Rattle.replies.specs.First.{NoneFits}
-use Rattle.replies.proofs.First.{Numbered}
 use Rattle.driving.specs.declared.Order.{Order}
 use Rattle.driving.specs.declared.Figures.{Figures}
 use Rattle.driving.specs.declared.Rules.{Rules}
@@ -97,10 +96,6 @@ unfolding badTrip
 sound-trip-passes junctions o s =
     none-broken (endRules junctions o ++ figureRules (o .figures) (o .rules))
     (le-leb _ _ (s .source-low), (le-leb _ _ (s .source-high), (le-leb _ _ (s .target-low), (le-leb _ _ (s .target-high), (le-leb _ _ (s .times-rise), (le-leb _ _ (s .latest-high), (le-leb _ _ (s .sound-figures .spell-high), (le-leb _ _ (s .sound-figures .figures-rise), (le-leb _ _ (s .sound-figures .shift-high), tt)))))))))
-
--- the refusals of the order check number from 1, as `none-fitted` asks
-pub order-numbered : (junctions : ℕ) (bytes : List ℕ) → Numbered (orderTests junctions bytes)
-order-numbered junctions bytes = (lit≤ tt, (lit≤ tt, (lit≤ tt, tt)))
 
 pub order-length : (bytes : List ℕ) → badOrder bytes ≡ none → length bytes ≡ orderBytes
 order-length bytes e =

@@ -25,6 +25,10 @@ abbrev pub isNone : Option State → Bool
 isNone none = true
 isNone (some a) = false
 
+-- the numbers of the refusals that are given before the search
+abbrev pub beforeSearch : List ℕ
+beforeSearch = 1 ∷ 2 ∷ 3 ∷ 4 ∷ 5 ∷ 6 ∷ 7 ∷ 8 ∷ 9 ∷ 10 ∷ 11 ∷ []
+
 -- refusal 12, full: N above labels that fit
 abbrev pub full : Trip → ℕ → Option ℕ
 full trip fit = placed (ltb fit (labelCount trip)) fit

@@ -3,7 +3,7 @@ use mathlib.Core.Path.{_≡_}
 use mathlib.Core.List.{List}
 use Prim.Native.Nat.{ℕ, _≤_}
 use borrow.Author.Tests.{ltb-false, eqb-true, not-false}
-use lib.Dec.{lit≤, eqb}
+use lib.Dec.{eqb}
 use lib.ListN.{length}
 use Rattle.replies.specs.declared.Check.{Check}
 use Rattle.replies.specs.First.{firstOf, NoneFits, Tried}
@@ -17,17 +17,11 @@ use Rattle.mapcheck.proofs.Counts.{placed-none, in-range}
 module _ (map : List ℕ) where
   -- the map check's answer
   pub map-tried : (answer : Check) → toldCheck answer ≡ firstOf (mapTests map) (succeeded 0 0) → Tried (mapTests map) answer
-  map-tried answer told =
-      tried (mapTests map) answer
-      (lit≤ tt, (lit≤ tt, (lit≤ tt, (lit≤ tt, (lit≤ tt, (lit≤ tt, (lit≤ tt, (lit≤ tt, tt))))))))
-      told
+  map-tried answer told = tried (mapTests map) answer tt told
 
   -- and that of a map whose links are not made yet
   pub chaining-tried : (answer : Check) → toldCheck answer ≡ firstOf (chainingTests map) (succeeded 0 0) → Tried (chainingTests map) answer
-  chaining-tried answer told =
-      tried (chainingTests map) answer
-      (lit≤ tt, (lit≤ tt, (lit≤ tt, (lit≤ tt, (lit≤ tt, (lit≤ tt, (lit≤ tt, tt)))))))
-      told
+  chaining-tried answer told = tried (chainingTests map) answer tt told
 
   -- 1 to 4 leave a header
   pub has-header : NoneFits (sizeTests map) → mapHeaderBytes ≤ length map

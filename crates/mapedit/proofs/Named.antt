@@ -4,13 +4,12 @@ use mathlib.Core.List.{List, [], _∷_, _++_}
 use Prim.Native.Nat.{ℕ, _+_, _-_, _≤_, _<_}
 use native.Mathlib.Omega.{arith}
 use borrow.Author.Tests.{lt-ltb, le-ltb, ne-eqb}
-use lib.Dec.{lit≤}
 use lib.ListN.{length, take, drop}
 use Rattle.replies.specs.declared.Reply.{Reply}
 use Rattle.replies.specs.declared.Refusal.{Refusal}
-use Rattle.replies.specs.First.{Test, firstOf, _at_, NoneFits, Refuses}
+use Rattle.replies.specs.First.{Test, firstOf, _at_, Refuses}
 use Rattle.replies.specs.Told.{succeeded, refusedAt, toldRefusal}
-use Rattle.replies.proofs.First.{none-fits, Numbered, none-fitted, stops-at, passed-over, refusal-number}
+use Rattle.replies.proofs.First.{none-fits, none-fitted, none-before, none-behind, stops-at, passed-over, refusal-number}
 use Rattle.roadmap.specs.Format.{junctionCount, nameLength, lengthNeeded}
 use Rattle.mapcheck.specs.MapCheck.{outside, mapTests, AcceptedMap}
 use Rattle.mapcheck.proofs.Counts.{placed-none, Within, within}
@@ -40,12 +39,11 @@ module _ (map : List ℕ) (junction : ℕ) where
         ∙ passed-over (20 at unknownName map junction) [] _ (rw (le-ltb _ _ low, le-ltb _ _ high)))
 
   -- the tests of a name
-  abbrev nameTests : List Test
-  nameTests = mapTests map ++ ((20 at unknownName map junction) ∷ [])
+  abbrev last : List Test
+  last = (20 at unknownName map junction) ∷ []
 
-  numbered : Numbered nameTests
-  numbered =
-      (lit≤ tt, (lit≤ tt, (lit≤ tt, (lit≤ tt, (lit≤ tt, (lit≤ tt, (lit≤ tt, (lit≤ tt, (lit≤ tt, tt)))))))))
+  abbrev nameTests : List Test
+  nameTests = mapTests map ++ last
 
   -- what a reply of number 0 says
   pub record Named : Type 0 where
@@ -54,18 +52,12 @@ module _ (map : List ℕ) (junction : ℕ) where
     -- the name ends within the map
     pub inside : nameAt map junction + nameLength map junction ≤ lengthNeeded map
 
-  accepted-part : NoneFits nameTests → AcceptedMap map
-  accepted-part none =
-      let sizes = none .1 .1 in
-      let content = sizes .1 .1 in
-      (none .0, (none .1 .0, (sizes .0, (sizes .1 .0, (content .0, (content .1 .0, (content .1 .1 .0, (content .1 .1 .1 .0, tt))))))))
-
   pub number-named : nameReply map junction .number ≡ 0 → Named
   unfolding nameReply
   number-named zero =
-      let none = none-fitted nameTests (succeeded (nameLength map junction) 0) numbered zero in
-      let accepted = accepted-part none in
-      let known : Within 1 (junctionCount map) junction = within (placed-none junction (none .1 .1 .1 .1 .1 .1 .1 .1 .0)) in
+      let none = none-fitted nameTests (succeeded (nameLength map junction) 0) tt zero in
+      let accepted = none-before (mapTests map) last none in
+      let known : Within 1 (junctionCount map) junction = within (placed-none junction (none-behind (mapTests map) last none .0)) in
       let inside = sound-map map accepted .junctions junction (known .above) (known .below) .inside in
       record { accepted = accepted; known = known; inside = omega arith }
 

@@ -1,23 +1,25 @@
 -- Planning from the bytes: a run that is refused, and one that is opened. Assumes nothing.
 use mathlib.Core.Path.{_≡_, _∙_, refl, sym, ap, subst}
+use mathlib.Core.Bool.{not}
 use mathlib.Core.List.{List}
-use Prim.Native.Nat.{ℕ, _≤_}
+use Prim.Native.Nat.{ℕ}
 use native.Mathlib.Omega.{arith}
-use lib.Dec.{eqb}
+use lib.Dec.{T, T-not, eqb}
 use lib.ListN.{length}
 use Rattle.replies.specs.declared.Refusal.{Refusal}
 use Rattle.replies.specs.declared.Reply.{Reply}
 use Rattle.replies.specs.declared.Planning.{Planning}
 use Rattle.replies.specs.Told.{toldRefusal, toldPlan}
 use Rattle.replies.specs.First.{NoneFits, Refuses}
-use Rattle.replies.proofs.First.{none-fits, refusal-number}
+use Rattle.replies.proofs.First.{none-fits, refusal-number, told-passes}
 use Rattle.driving.specs.Order.{orderOf}
 use Rattle.moves.specs.declared.Run.{Run}
 use Rattle.moves.specs.Trip.{Trip, tripOf}
 use Rattle.moves.specs.Runs.{tripIn}
 use Rattle.moves.specs.Opened.{runTests}
-use Rattle.journeys.specs.Planning.{labelsThatFit, tripFrom, searchTests, planned, searchReply, planReply, planSheetWhen, planSheet}
-use Rattle.journeys.proofs.Planning.{sheet-refused, SearchCase, search-case}
+use Rattle.theory.specs.Lists.{memb}
+use Rattle.journeys.specs.Planning.{labelsThatFit, beforeSearch, tripFrom, searchTests, planned, searchReply, planReply, planSheetWhen, planSheet}
+use Rattle.journeys.proofs.Planning.{sheet-refused}
 use Rattle.search.specs.declared.Outcome.{Outcome}
 use Rattle.search.specs.Turns.{OutcomeSays}
 use Rattle.planner.specs.Parts.{Concluded}
@@ -34,7 +36,7 @@ module _ (map order words sheet : List ℕ) where
   abbrev fit : ℕ
   fit = labelsThatFit (length words)
 
-  -- refusals 1 to 11: nothing has changed
+  -- a refusal before the search: nothing has changed
   pub run-refused : (why : Refusal) → Refuses (runTests map order) why → Planned map order words words sheet sheet (Planning.Refused why)
   unfolding planReply
   run-refused why refuses =
@@ -42,18 +44,15 @@ module _ (map order words sheet : List ℕ) where
       record {
         reply = sym told;
         bytes = sym (sheet-refused map order fit sheet (λ e. omega (arith, refusal-number why, ap (λ (r : Reply). r .number) told)));
-        kept = λ low high. refl;
+        kept = λ listed. refl;
       }
 
-  -- no reply of a search is one of refusals 1 to 11
-  late-number : (trip : Trip) (k : ℕ) → searchReply trip fit (length sheet) .number ≡ k → 1 ≤ k → k ≤ 11 → ⊥
-  late-number trip k e low high = go (search-case trip fit (length sheet))
-    where
-      go : SearchCase trip fit (length sheet) → ⊥
-      go (SearchCase.case-full h q) = omega (arith, e, low, high, ap (λ (r : Reply). r .number) q)
-      go (SearchCase.case-no-road room n q) = omega (arith, e, low, high, ap (λ (r : Reply). r .number) q)
-      go (SearchCase.case-short room a s h q) = omega (arith, e, low, high, ap (λ (r : Reply). r .number) q)
-      go (SearchCase.case-planned room a s h q) = omega (arith, e, low, high, ap (λ (r : Reply). r .number) q)
+  -- no number that a search tells is one of those
+  late-number : (trip : Trip) → T (memb eqb (searchReply trip fit (length sheet) .number) beforeSearch) → ⊥
+  unfolding searchReply memb
+  late-number trip =
+      T-not (memb eqb (searchReply trip fit (length sheet) .number) beforeSearch)
+      (told-passes (λ (k : ℕ). not (memb eqb k beforeSearch)) (searchTests trip fit (length sheet)) (planned trip) tt tt)
 
   -- an opened run: what the search concludes
   pub run-planned : (run : Run) → run .order ≡ orderOf order → NoneFits (runTests map order) → {words′ sheet′ : List ℕ} {answer : Planning}
@@ -68,5 +67,5 @@ module _ (map order words sheet : List ℕ) where
         bytes = concluded .bytes
             ∙ ap (λ (t : Trip). planSheetWhen (eqb (toldPlan answer .number) 0) t sheet) trip-same
             ∙ ap (λ (r : Reply). planSheetWhen (eqb (r .number) 0) (tripFrom map order) sheet) reply;
-        kept = λ low high. absurd (late-number (tripFrom map order) (toldPlan answer .number) (sym (ap (λ (r : Reply). r .number) told)) low high);
+        kept = λ listed. absurd (late-number (tripFrom map order) (rw told at listed));
       }

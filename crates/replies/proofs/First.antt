@@ -1,14 +1,14 @@
 -- The laws of "the lowest" and of "the first refusal that fits". Assumes nothing.
 use mathlib.Core.Path.{_≡_, _∙_, refl, sym, ap}
-use mathlib.Core.Bool.{Bool, true, false}
-use mathlib.Core.List.{List, [], _∷_, _++_, append-assoc}
+use mathlib.Core.Bool.{Bool, true, false, _&&_}
+use mathlib.Core.List.{List, [], _∷_, _++_, append-assoc, append-nil}
 use mathlib.Core.Logic.{_⊎_, ⊎-elim}
 use mathlib.Core.Option.{Option, none, some}
 use Prim.Native.Nat.{ℕ, zero, suc, _+_, _≤_, _<_}
 use native.Mathlib.Omega.{arith}
 use native.Mathlib.Nat.{eq-or-lt-of-le}
-use lib.Dec.{lit≤}
-use Rattle.booleans.proofs.Tests.{cases, not-both, some-not-none}
+use lib.Dec.{T, ltb, lit≤}
+use Rattle.booleans.proofs.Tests.{cases, not-both, some-not-none, T-true, and-l, and-r}
 use Rattle.replies.specs.declared.Reply.{Reply}
 use Rattle.replies.specs.declared.Refusal.{Refusal}
 use Rattle.replies.specs.declared.Refusal.the-variants.{ShortMap, StrangeMap, Oversize, Misfit, BadJunction, BadRoad, BrokenChain, BadLettering, BadOrder, BadRules, BadTrip, Full, NoRoad, ShortSheet, TornSheet, ForeignMove, Overrun, FalseFigure, Stray, UnknownName}
@@ -98,19 +98,37 @@ unfolding firstOf
 none-fits [] rest success all = refl
 none-fits (t ∷ ts) rest success all = rw (all .0) (none-fits ts rest success (all .1))
 
-abbrev pub Numbered : List Test → Type 0
-Numbered [] = Unit {0}
-Numbered (t ∷ ts) = (1 ≤ t .number) × Numbered ts
+-- every refusal of the list has a number that passes the test
+abbrev pub everyNumber : (ℕ → Bool) → List Test → Bool
+everyNumber passes [] = true
+everyNumber passes (t ∷ ts) = let rest = everyNumber passes ts in passes (t .number) && rest
+
+-- where the numbers of a list all pass a test that the number told fails, none of the list fits
+pub none-told : (passes : ℕ → Bool) (ts us : List Test) (success : Reply) → T (everyNumber passes ts) → passes (firstOf (ts ++ us) success .number) ≡ false → NoneFits ts
+unfolding firstOf
+none-told passes [] us success all fails = tt
+none-told passes (t ∷ ts) us success all fails = at (t .place) refl (none-told passes ts us success (and-r (passes (t .number)) _ all))
+  where
+    at : (p : Option ℕ) → t .place ≡ p → (passes (firstOf (ts ++ us) success .number) ≡ false → NoneFits ts) → (t .place ≡ none) × NoneFits ts
+    at none is-none go = (is-none, go (rw (is-none, refusedOr) at fails))
+    at (some place) is-some go = absurd (not-both (T-true (and-l (passes (t .number)) _ all)) (rw (is-some, refusedOr) at fails))
+
+-- what the numbers of a list and the success's all pass, the number told passes
+pub told-passes : (passes : ℕ → Bool) (ts : List Test) (success : Reply) → T (everyNumber passes ts) → T (passes (success .number)) → T (passes (firstOf ts success .number))
+unfolding firstOf
+told-passes passes [] success all last = last
+told-passes passes (t ∷ ts) success all last = at (t .place) (told-passes passes ts success (and-r (passes (t .number)) _ all) last)
+  where
+    at : (p : Option ℕ) → T (passes (firstOf ts success .number)) → T (passes (refusedOr (t .number) p (firstOf ts success) .number))
+    at none later = later
+    at (some place) later = and-l (passes (t .number)) _ all
 
 -- refusals number from 1, so a reply of number 0 says that none of them fits
+abbrev pub Numbered : List Test → Type 0
+Numbered ts = T (everyNumber (ltb 0) ts)
+
 pub none-fitted : (ts : List Test) (success : Reply) → Numbered ts → firstOf ts success .number ≡ 0 → NoneFits ts
-unfolding firstOf
-none-fitted [] success from-1 e = tt
-none-fitted (t ∷ ts) success from-1 e = at (t .place) refl (λ rest. none-fitted ts success (from-1 .1) rest)
-  where
-    at : (p : Option ℕ) → t .place ≡ p → (firstOf ts success .number ≡ 0 → NoneFits ts) → (t .place ≡ none) × NoneFits ts
-    at none is-none go = (is-none, go (rw (is-none, refusedOr) at e))
-    at (some place) is-some go = absurd (omega (arith, rw (is-some, refusedOr) at e))
+none-fitted ts success from-1 e = none-told (ltb 0) ts [] success from-1 (rw (append-nil ts, e) refl)
 
 pub refusal-number : (why : Refusal) → 1 ≤ toldRefusal why .number
 refusal-number (ShortMap p) = lit≤ tt

@@ -5,14 +5,15 @@ use mathlib.Core.List.{List, [], _∷_, _++_}
 use mathlib.Core.Option.{none}
 use Prim.Native.Nat.{ℕ, _+_, _≤_}
 use native.Mathlib.Omega.{arith}
-use borrow.Author.Tests.{eq-eqb, ltb-false}
-use lib.Dec.{lit≤}
+use borrow.Author.Tests.{eq-eqb, lt-ltb, ltb-false}
+use lib.Dec.{ltb}
 use lib.ListN.{length, take}
 use Rattle.booleans.proofs.Tests.{some-not-none}
 use Rattle.replies.specs.First.{Test, _at_, firstOf, NoneFits}
 use Rattle.replies.specs.Told.{succeeded}
-use Rattle.replies.proofs.First.{none-fitted, none-of-both, none-at-all, none-before, none-behind}
+use Rattle.replies.proofs.First.{Numbered, none-fitted, none-of-both, none-at-all, none-before, none-behind}
 use Rattle.mapcheck.proofs.Counts.{placed-none}
+use Rattle.driving.specs.declared.Order.{Order}
 use Rattle.driving.specs.Order.{orderOf}
 use Rattle.moves.specs.declared.State.{State}
 use Rattle.moves.specs.Trip.{Trip, tripOf}
@@ -80,24 +81,29 @@ own-figures : (given : Heading) (s : State) → falseFigures (retimedHeading giv
 unfolding falseFigures
 own-figures given s = rw (eq-eqb (s .clock .0) (s .clock .0) refl, eq-eqb (s .spell .0) (s .spell .0) refl, eq-eqb (s .shift .0) (s .shift .0) refl)
 
+-- the refusal that a walk meets numbers from 1, and so do the refusals of retiming and of audit
+move-numbered : (clocks : Bool) (map : List ℕ) (order : Order) (sheet : List ℕ) → ltb 0 (moveTest (timing clocks map order sheet) .number) ≡ true
+unfolding timing
+move-numbered clocks map order sheet = by (timing clocks map order sheet) refl
+  where
+    by : (w : Walk) → timing clocks map order sheet ≡ w → ltb 0 (moveTest w .number) ≡ true
+    by (refused number move) e = lt-ltb 0 number (omega (arith, walk-number clocks _ 1 _ _ e))
+    by (reached s rows) e = refl
+
+module _ (map order sheet : List ℕ) where
+  pub retiming-numbered : (out : List ℕ) → Numbered (retimingTests map order sheet out (timing false map (orderOf order) sheet))
+  retiming-numbered out = rw (move-numbered false map (orderOf order) sheet) tt
+
+  pub audit-numbered : Numbered (auditTests map order sheet (timing true map (orderOf order) sheet))
+  audit-numbered = rw (move-numbered true map (orderOf order) sheet) tt
+
 -- what a retiming that succeeded found, from its reply's number alone
 module _ (map order sheet out : List ℕ) (number-0 : retimingReply map order sheet out .number ≡ 0) where
   abbrev found : Walk
   found = timing false map (orderOf order) sheet
 
-  move-number : 1 ≤ moveTest found .number
-  unfolding timing
-  move-number = by found refl
-    where
-      by : (w : Walk) → found ≡ w → 1 ≤ moveTest w .number
-      by (refused number move) e = omega (arith, walk-number false _ 1 _ _ e)
-      by (reached s rows) e = lit≤ tt
-
   none-fitting : NoneFits (retimingTests map order sheet out found)
-  none-fitting =
-      none-fitted (retimingTests map order sheet out found) _
-      (lit≤ tt, (lit≤ tt, (lit≤ tt, (lit≤ tt, (lit≤ tt, (lit≤ tt, (lit≤ tt, (lit≤ tt, (lit≤ tt, (lit≤ tt, (lit≤ tt, (lit≤ tt, (move-number, (lit≤ tt, (lit≤ tt, tt)))))))))))))))
-      number-0
+  none-fitting = none-fitted (retimingTests map order sheet out found) _ (retiming-numbered map order sheet out) number-0
 
   -- 14, and what comes before it once the run is opened
   abbrev short-test : List Test

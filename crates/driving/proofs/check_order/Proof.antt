@@ -1,7 +1,6 @@
 -- The length, then the rules, then the trip.
 use mathlib.Core.Path.{_∙_, ap}
 use mathlib.Core.List.{[], _∷_}
-use lib.Dec.{lit≤}
 use borrow.Author.Tests.{ne-eqb}
 use borrow.Author.Needs.{needs}
 use Rattle.replies.specs.Told.{toldCheck}
@@ -21,7 +20,7 @@ returns-2 c =
     let trip = c .before .check-trip in
     let read = c .before .before .before .before in
     ap toldCheck (c .first-refused .ensures)
-    ∙ first-then (_ ∷ []) (_ ∷ []) (rules .result) (trip .result) (lit≤ tt, tt) (rules .ensures) (trip .ensures)
+    ∙ first-then (_ ∷ []) (_ ∷ []) (rules .result) (trip .result) tt (rules .ensures) (trip .ensures)
     ∙ order-parts _ _ _ _ (read .before .if1 .left) (read .read-order .ensures)
 
 pub check-order-spec : {M : Type 1} → statement M

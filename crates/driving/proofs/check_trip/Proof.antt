@@ -1,7 +1,6 @@
 -- The ends, then the figures.
 use mathlib.Core.Path.{_∙_, ap}
 use mathlib.Core.List.{[], _∷_}
-use lib.Dec.{lit≤}
 use borrow.Author.Needs.{needs}
 use Rattle.replies.specs.Told.{toldCheck}
 use Rattle.driving.proofs.Broken.{trip-parts}
@@ -14,7 +13,7 @@ returns c =
     let ends = c .before .before .check-ends in
     let figures = c .before .check-figures in
     ap toldCheck (c .first-refused .ensures)
-    ∙ first-then (_ ∷ []) (_ ∷ []) (ends .result) (figures .result) (lit≤ tt, tt) (ends .ensures) (figures .ensures)
+    ∙ first-then (_ ∷ []) (_ ∷ []) (ends .result) (figures .result) tt (ends .ensures) (figures .ensures)
     ∙ trip-parts _ (c .before .before .before .before .before .args .order) _
 
 pub check-trip-spec : {M : Type 1} → statement M

@@ -8,7 +8,7 @@ use Rattle.roadmap.specs.Format.{junctionCount}
 use Rattle.mapcheck.specs.MapCheck.{mapTests, AcceptedMap}
 use Rattle.mapcheck.proofs.Tried.{map-tried, accepted-sizes, has-header, has-sizes}
 use Rattle.driving.specs.Order.{orderTests}
-use Rattle.driving.proofs.Accepted.{order-numbered, order-length, order-accepted}
+use Rattle.driving.proofs.Accepted.{order-length, order-accepted}
 use Rattle.moves.proofs.open_run.Statement.{statement}
 use Rattle.moves.proofs.open_run.Tie as tie
 
@@ -25,7 +25,7 @@ order-tried : (c : tie.After-check-order) →
 order-tried c =
     let start = c .before .before .before .before .before .before .before in
     tried (orderTests (junctionCount (start .args .map .now)) (start .args .order .now)) (c .check-order .result)
-    (order-numbered (junctionCount (start .args .map .now)) (start .args .order .now))
+    tt
     (c .check-order .ensures ∙ ap (λ (j : ℕ). firstOf (orderTests j (start .args .order .now)) (succeeded 0 0)) (c .before .sizes-of .ensures .0))
 
 returns : tie.Need-returns
