@@ -4,9 +4,9 @@ use mathlib.Core.Path.{_≡_, _∙_, refl, subst}
 use mathlib.Core.List.{List}
 use Prim.Native.Nat.{ℕ, zero, suc, _+_, _-_, _≤_, _<_}
 use native.Mathlib.Omega.{arith}
-use Rattle.replies.proofs.First.{lowest-is-none}
+use Rattle.replies.proofs.First.{lowest-is-none, none-under}
 use Rattle.roadmap.specs.Format.{junctionCount, roadCount, firstRoad, nextRoad, roadFrom}
-use Rattle.mapcheck.specs.MapCheck.{AcceptedMap}
+use Rattle.mapcheck.specs.MapCheck.{mapTests, AcceptedMap}
 use Rattle.mapcheck.proofs.Listed.{MapMade, map-made, LowestFrom, lowest-from}
 use Rattle.mapcheck.proofs.Sound.{links-of}
 use Rattle.driving.specs.declared.Order.{Order}
@@ -46,8 +46,7 @@ before R (suc k) c high end = record { within = omega arith; below = λ road. en
 -- an accepted map's links are to the lowest roads
 pub accepted-made : (map : List ℕ) → AcceptedMap map → MapMade map
 accepted-made map accepted =
-    let content = accepted .1 .1 .1 .1 in
-    map-made map (links-of map (content .0) (content .1 .0)) (lowest-is-none _ 1 _ (content .1 .1 .0))
+    map-made map (links-of map (none-under 5 (mapTests map) accepted) (none-under 6 (mapTests map) accepted)) (lowest-is-none _ 1 _ (none-under 7 (mapTests map) accepted))
 
 -- the chain rises to its end
 pub walk-rises : (map : List ℕ) → AcceptedMap map → (r : ℕ) → 1 ≤ r → r ≤ roadCount map →

@@ -3,16 +3,15 @@ use mathlib.Core.Path.{_≡_, refl, sym, ap, _∙_}
 use mathlib.Core.Bool.{true, false}
 use mathlib.Core.List.{List, [], _∷_, _++_}
 use mathlib.Core.Logic.{⊎-elim}
-use mathlib.Core.Option.{none}
 use Prim.Native.Nat.{ℕ, _+_, _≤_}
 use native.Mathlib.Omega.{arith}
 use borrow.Author.Tests.{eqb-true, not-false}
 use lib.Dec.{eqb}
 use lib.ListN.{length}
 use Rattle.booleans.proofs.Tests.{cases, or-false}
-use Rattle.replies.specs.First.{_at_, NoneFits}
+use Rattle.replies.specs.First.{Test, _at_, NoneFits}
 use Rattle.replies.specs.Told.{succeeded}
-use Rattle.replies.proofs.First.{none-fitted, none-at-all, none-behind}
+use Rattle.replies.proofs.First.{none-fitted, none-at-all, none-before, none-behind, none-under}
 use Rattle.mapcheck.proofs.Counts.{placed-none}
 use Rattle.driving.specs.Order.{orderOf}
 use Rattle.moves.specs.declared.State.{State}
@@ -65,11 +64,18 @@ module _ (bytes order sheet : List ℕ) (number-0 : auditReply bytes order sheet
   none-fit : NoneFits (auditTests bytes order sheet walked)
   none-fit = none-fitted (auditTests bytes order sheet walked) _ (audit-numbered bytes order sheet) number-0
 
-  late : NoneFits (sheetTests (orderOf order) sheet walked ++ (18 at falseHeader (headingOf sheet) walked) ∷ [])
-  late = none-behind (runTests bytes order) (sheetTests (orderOf order) sheet walked ++ (18 at falseHeader (headingOf sheet) walked) ∷ []) none-fit
+  -- once the run is opened: the sheet's refusals, and 18 for the header
+  abbrev header-test : Walk → List Test
+  header-test w = (18 at falseHeader (headingOf sheet) w) ∷ []
+
+  abbrev opened-tests : Walk → List Test
+  opened-tests w = sheetTests (orderOf order) sheet w ++ header-test w
+
+  late : NoneFits (opened-tests walked)
+  late = none-behind (runTests bytes order) (opened-tests walked) none-fit
 
   end : Met walked
-  end = met walked (late .1 .0)
+  end = met (orderOf order) sheet walked (none-before (sheetTests (orderOf order) sheet walked) (header-test walked) late)
 
   -- where the moves lead
   pub reached-by : State
@@ -87,16 +93,18 @@ module _ (bytes order sheet : List ℕ) (number-0 : auditReply bytes order sheet
   unfolding timing
   own-rows = walk-same _ 1 _ (rowsOf sheet 1 (movesOn sheet)) found
 
+  late-reached : NoneFits (opened-tests (reached reached-by (end .rows)))
+  late-reached = rw found at late
+
   at-target : atTarget trip reached-by ≡ true
-  at-target = ends-at bytes order reached-by (end .rows) (rw found at (late .1 .1 .0))
+  at-target = ends-at bytes order reached-by (end .rows) (none-under 19 (opened-tests (reached reached-by (end .rows))) late-reached)
 
   long : sheetNeeded (movesOn sheet) ≤ length sheet
-  long = omega (arith, none-whole sheet (late .0) .exact)
+  long = omega (arith, none-whole sheet (none-under 15 (opened-tests walked) late) .exact)
 
   figures : falseFigures (headingOf sheet) reached-by ≡ false
   figures =
-      let true-header : falseHeader (headingOf sheet) (reached reached-by (end .rows)) ≡ none = rw found at (late .1 .1 .1 .0) in
-      placed-none (movesOn sheet + 1) true-header
+      placed-none (movesOn sheet + 1) (none-under 18 (opened-tests (reached reached-by (end .rows))) late-reached)
 
   -- the sheet's bytes hold the legal journey, with its true figures
   pub audited-holds : HoldsJourney trip sheet reached-by

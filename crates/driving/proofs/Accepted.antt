@@ -10,6 +10,7 @@ use lib.ListN.{length}
 use borrow.Author.Tests.{le-leb, leb-true, eq-eqb, eqb-true}
 use Rattle.booleans.proofs.Tests.{cases, some-not-none}
 use Rattle.replies.specs.First.{NoneFits}
+use Rattle.replies.proofs.First.{none-under}
 use Rattle.driving.specs.declared.Order.{Order}
 use Rattle.driving.specs.declared.Figures.{Figures}
 use Rattle.driving.specs.declared.Rules.{Rules}
@@ -106,7 +107,7 @@ order-length bytes e =
 
 -- the order check passes exactly the orders of 40 bytes whose words keep every rule
 pub order-accepted : (junctions : ℕ) (bytes : List ℕ) → NoneFits (orderTests junctions bytes) → AcceptedOrder junctions (orderOf bytes)
-order-accepted junctions bytes passed = order-sound junctions (orderOf bytes) (passed .1 .0) (passed .1 .1 .0)
+order-accepted junctions bytes passed = order-sound junctions (orderOf bytes) (none-under 10 (orderTests junctions bytes) passed) (none-under 11 (orderTests junctions bytes) passed)
 
 pub accepted-passes : (junctions : ℕ) (bytes : List ℕ) → length bytes ≡ orderBytes → AcceptedOrder junctions (orderOf bytes) → NoneFits (orderTests junctions bytes)
 accepted-passes junctions bytes long s =

@@ -11,13 +11,13 @@ use borrow.Author.Tests.{eqb-true, ltb-false, leb-false}
 use lib.Dec.{eqb, leb, ltb}
 use lib.ListN.{length}
 use Rattle.booleans.proofs.Tests.{cases, or-false}
-use Rattle.replies.proofs.First.{NoneBelow, lowest-is-none}
+use Rattle.replies.proofs.First.{NoneBelow, lowest-is-none, none-under}
 use Rattle.roadmap.specs.Format.{junctionCount, roadCount, nameBytes, firstRoad, carPark, nameStart, nameLength, nextRoad, roadFrom, roadTo, roadMetres, roadSpeed, lengthNeeded}
 use Rattle.roadmap.specs.RoadTime.{mostMetres, leastSpeed, mostSpeed}
 use Rattle.mapcheck.specs.Chain.{chain}
 use Rattle.mapcheck.specs.Links.{MapLinks}
 use Rattle.mapcheck.specs.Listed.{roadsFrom}
-use Rattle.mapcheck.specs.MapCheck.{badJunctionAt, badJunction, badNext, badRoadAt, badRoad, oversize, AcceptedMap}
+use Rattle.mapcheck.specs.MapCheck.{badJunctionAt, badJunction, badNext, badRoadAt, badRoad, oversize, mapTests, AcceptedMap}
 use Rattle.mapcheck.proofs.Counts.{Within, within, CountsInRange, in-range}
 use Rattle.mapcheck.proofs.Listed.{map-listed}
 use Rattle.mapcheck.proofs.Tried.{has-whole, accepted-sizes}
@@ -103,16 +103,14 @@ module _ (map : List ℕ) where
   pub sound-map : AcceptedMap map → SoundMap
   unfolding oversize
   sound-map accepted =
-      let sizes = accepted .1 .1 in
-      let content = sizes .1 .1 in
-      let no-junction = lowest-is-none _ 1 _ (content .0) in
-      let no-road = lowest-is-none _ 1 _ (content .1 .0) in
+      let no-junction = lowest-is-none _ 1 _ (none-under 5 (mapTests map) accepted) in
+      let no-road = lowest-is-none _ 1 _ (none-under 6 (mapTests map) accepted) in
       let linked = sound-links no-junction no-road in
       record {
-        counts = in-range _ _ _ (sizes .0);
+        counts = in-range _ _ _ (none-under 3 (mapTests map) accepted);
         whole = has-whole map (accepted-sizes map accepted);
         junctions = λ j low high. sound-junction true j (no-junction j low (omega arith));
         roads = λ r low high. sound-road true r (no-road r low (omega arith));
         links = linked;
-        chains = map-listed map linked (lowest-is-none _ 1 _ (content .1 .1 .0));
+        chains = map-listed map linked (lowest-is-none _ 1 _ (none-under 7 (mapTests map) accepted));
       }

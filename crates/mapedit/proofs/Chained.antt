@@ -14,10 +14,11 @@ use lib.ListN.{length, getD}
 use Rattle.booleans.proofs.Tests.{cases}
 use Rattle.words.proofs.Put.{Apart}
 use Rattle.replies.specs.First.{NoneFits}
-use Rattle.replies.proofs.First.{lowest-none, lowest-is-none}
+use Rattle.replies.proofs.First.{lowest-none, lowest-is-none, none-of-both, none-under}
 use Rattle.roadmap.specs.Format.{format, mapHeaderBytes, junctionCount, roadCount, nameBytes, namesAt, junctionAt, roadAt, lengthNeeded, junctionWord, roadWord, firstRoad, nextRoad, roadFrom}
 use Rattle.mapcheck.specs.Links.{MapLinks}
-use Rattle.mapcheck.specs.MapCheck.{oversize, badJunctionAt, badJunction, badNext, badRoadAt, badRoad, brokenChain, badLetterAt, badLettering, chainingTests, AcceptedMap}
+use Rattle.mapcheck.specs.MapCheck.{oversize, badJunctionAt, badJunction, badNext, badRoadAt, badRoad, brokenChain, badLetterAt, badLettering, sizeTests, mapTests, chainingTests, AcceptedMap}
+use Rattle.mapcheck.specs.Found.{contentTests}
 use Rattle.mapcheck.proofs.Counts.{placed-none, none-of-1-to-4}
 use Rattle.mapcheck.proofs.Sound.{links-of}
 use Rattle.mapcheck.proofs.Listed.{MapMade, map-made, made-map-links, made-map-unbroken}
@@ -108,7 +109,7 @@ module _ (map s : List ℕ) (kept : Kept map s) (fine : NoneFits (chainingTests 
         kept .junction j 8 low high (omega arith) (omega arith),
         kept .junction j 12 low high (omega arith) (omega arith),
       )
-      (lowest-is-none _ 1 _ (fine .1 .1 .1 .1 .0) j low (omega arith))
+      (lowest-is-none _ 1 _ (none-under 5 (chainingTests map) fine) j low (omega arith))
 
   good-road : (r : ℕ) → 1 ≤ r → r ≤ roadCount map → badRoadAt true s r ≡ false
   unfolding badRoadAt
@@ -122,12 +123,12 @@ module _ (map s : List ℕ) (kept : Kept map s) (fine : NoneFits (chainingTests 
         kept .road r 8 (omega arith),
         kept .road r 12 (omega arith),
       )
-      (lowest-is-none _ 1 _ (fine .1 .1 .1 .1 .1 .0) r low (omega arith))
+      (lowest-is-none _ 1 _ (none-under 6 (chainingTests map) fine) r low (omega arith))
 
   good-letter : (i : ℕ) → namesAt map ≤ i → i < namesAt map + nameBytes map → badLetterAt s i ≡ false
   unfolding badLetterAt
   good-letter i low high =
-      rw (kept .letter i low) (lowest-is-none _ (namesAt map) _ (fine .1 .1 .1 .1 .1 .1 .0) i low high)
+      rw (kept .letter i low) (lowest-is-none _ (namesAt map) _ (none-under 8 (chainingTests map) fine) i low high)
 
   no-bad-junction : badJunction true s ≡ none
   no-bad-junction = rw (kept .junctions) (lowest-none _ 1 _ (λ j low high. good-junction j low (omega arith)))
@@ -143,20 +144,18 @@ module _ (map s : List ℕ) (kept : Kept map s) (fine : NoneFits (chainingTests 
 
   not-oversize : oversize s ≡ none
   unfolding oversize
-  not-oversize = rw (kept .junctions, kept .roads, kept .names) (fine .1 .1 .0)
+  not-oversize = rw (kept .junctions, kept .roads, kept .names) (none-under 3 (chainingTests map) fine)
 
   kept-format : format s ≡ 1
-  kept-format = kept .format ∙ eqb-true _ _ (not-false (eqb (format map) 1) (placed-none 0 (fine .1 .0)))
+  kept-format = kept .format ∙ eqb-true _ _ (not-false (eqb (format map) 1) (placed-none 0 (none-under 2 (chainingTests map) fine)))
 
   kept-accepted : AcceptedMap s
   kept-accepted =
       let long : mapHeaderBytes ≤ length s = omega (arith, has-header map (unchained-sizes map fine), kept .size) in
       let whole : length s ≡ lengthNeeded s =
       omega (arith, has-whole map (unchained-sizes map fine), kept .size, kept .junctions, kept .roads, kept .names) in
-      let sizes = none-of-1-to-4 s long kept-format not-oversize whole in (
-        sizes .0,
-        (sizes .1 .0, (sizes .1 .1 .0, (sizes .1 .1 .1 .0, (no-bad-junction, (no-bad-road, (no-broken-chain, (no-bad-letter, tt))))))),
-      )
+      none-of-both (sizeTests s) (contentTests true s) (none-of-1-to-4 s long kept-format not-oversize whole)
+      (no-bad-junction, (no-bad-road, (no-broken-chain, (no-bad-letter, tt))))
 
 -- the map that chain making leaves passes the map check
 pub passes : (map : List ℕ) → NoneFits (chainingTests map) → AcceptedMap (chained map)
@@ -166,8 +165,7 @@ passes map fine = kept-accepted map (chained map) (kept map (has-whole map (unch
 pub accepted-stays : (map : List ℕ) → ((i : ℕ) → getD map i 0 < 256) → AcceptedMap map → chained map ≡ map
 unfolding chained junctionWord roadWord
 accepted-stays map bytes accepted =
-    let content = accepted .1 .1 .1 .1 in
-    let made = map-made map (links-of map (content .0) (content .1 .0)) (lowest-is-none _ 1 _ (content .1 .1 .0)) in
+    let made = map-made map (links-of map (none-under 5 (mapTests map) accepted) (none-under 6 (mapTests map) accepted)) (lowest-is-none _ 1 _ (none-under 7 (mapTests map) accepted)) in
     ap (λ (l : List ℕ). putAll (nextAt map) (nextLink map) 1 (roadCount map) l)
     (put-all-own junctionAt (firstLink map) 1 (junctionCount map) map bytes
     (λ j low high. rw add-zero at (made .first-lowest j low (omega arith))))

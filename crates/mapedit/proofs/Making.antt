@@ -9,7 +9,7 @@ use Rattle.replies.specs.declared.Check.{Check}
 use Rattle.replies.specs.declared.Refusal.{Refusal}
 use Rattle.replies.specs.First.{firstOf, NoneFits}
 use Rattle.replies.specs.Told.{succeeded, toldRefusal}
-use Rattle.replies.proofs.First.{lowest-is-none, refusal-number}
+use Rattle.replies.proofs.First.{lowest-is-none, none-under, refusal-number}
 use Rattle.roadmap.specs.Format.{roadCount}
 use Rattle.mapcheck.specs.MapCheck.{chainingTests}
 use Rattle.mapcheck.proofs.Sound.{SoundRoad, sound-road}
@@ -33,7 +33,7 @@ module _ (map : List ℕ) where
 
   -- the ends and the length of each road are sound
   pub road-sound : NoneFits (chainingTests map) → (r : ℕ) → 1 ≤ r → r ≤ roadCount map → SoundRoad map r
-  road-sound none r low high = sound-road map false r (lowest-is-none _ 1 _ (none .1 .1 .1 .1 .1 .0) r low (omega arith))
+  road-sound none r low high = sound-road map false r (lowest-is-none _ 1 _ (none-under 6 (chainingTests map) none) r low (omega arith))
 
   pub from-known : NoneFits (chainingTests map) → (r : ℕ) → 1 ≤ r → r ≤ roadCount map → FromKnown map r
   from-known none r low high =

@@ -7,7 +7,7 @@ use mathlib.Core.Option.{Option, none, some}
 use Prim.Native.Nat.{ℕ, zero, suc, _+_, _≤_, _<_}
 use native.Mathlib.Omega.{arith}
 use native.Mathlib.Nat.{eq-or-lt-of-le}
-use lib.Dec.{T, ltb, lit≤}
+use lib.Dec.{T, eqb, ltb, lit≤}
 use Rattle.booleans.proofs.Tests.{cases, not-both, some-not-none, T-true, and-l, and-r}
 use Rattle.replies.specs.declared.Reply.{Reply}
 use Rattle.replies.specs.declared.Refusal.{Refusal}
@@ -192,6 +192,19 @@ none-before (t ∷ ts) us none-fits = (none-fits .0, none-before ts us (none-fit
 pub none-behind : (ts us : List Test) → NoneFits (ts ++ us) → NoneFits us
 none-behind [] us none-fits = none-fits
 none-behind (t ∷ ts) us none-fits = none-behind ts us (none-fits .1)
+
+-- the place that a list has under a number; where none of the list fits, none
+abbrev pub placeUnder : ℕ → List Test → Option ℕ
+placeUnder k [] = none
+placeUnder k (t ∷ ts) = elim (eqb k (t .number)) [ true ↦ t .place | false ↦ placeUnder k ts ]
+
+pub none-under : (k : ℕ) (ts : List Test) → NoneFits ts → placeUnder k ts ≡ none
+none-under k [] all = refl
+none-under k (t ∷ ts) all = by (eqb k (t .number)) (none-under k ts (all .1))
+  where
+    by : (b : Bool) → placeUnder k ts ≡ none → _≡_ {A = Option ℕ} (elim b [ true ↦ t .place | false ↦ placeUnder k ts ]) none
+    by true later = all .0
+    by false later = later
 
 pub none-at-all : (ts : List Test) (success : Reply) → NoneFits ts → firstOf ts success ≡ success
 unfolding firstOf

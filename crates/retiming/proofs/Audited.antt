@@ -2,7 +2,7 @@
 use mathlib.Core.Path.{_≡_, _∙_, refl, sym, ap}
 use mathlib.Core.Bool.{Bool, true, false}
 use mathlib.Core.List.{List, [], _∷_, _++_}
-use mathlib.Core.Option.{none}
+use mathlib.Core.Option.{Option, none, some}
 use Prim.Native.Nat.{ℕ, _+_, _≤_}
 use native.Mathlib.Omega.{arith}
 use borrow.Author.Tests.{eq-eqb, lt-ltb, ltb-false}
@@ -11,7 +11,7 @@ use lib.ListN.{length, take}
 use Rattle.booleans.proofs.Tests.{some-not-none}
 use Rattle.replies.specs.First.{Test, _at_, firstOf, NoneFits}
 use Rattle.replies.specs.Told.{succeeded}
-use Rattle.replies.proofs.First.{Numbered, none-fitted, none-of-both, none-at-all, none-before, none-behind}
+use Rattle.replies.proofs.First.{Numbered, none-fitted, none-of-both, none-at-all, none-before, none-behind, none-under}
 use Rattle.mapcheck.proofs.Counts.{placed-none}
 use Rattle.driving.specs.declared.Order.{Order}
 use Rattle.driving.specs.Order.{orderOf}
@@ -72,9 +72,9 @@ pub record Met (w : Walk) : Type 0 where
   pub rows : List Row
   pub is : w ≡ reached s rows
 
-pub met : (w : Walk) → moveTest w .place ≡ none → Met w
-met (refused number move) e = absurd (some-not-none e)
-met (reached s rows) e = record { s = s; rows = rows; is = refl }
+pub met : (order : Order) (sheet : List ℕ) (w : Walk) → NoneFits (sheetTests order sheet w) → Met w
+met order sheet (refused number move) all = let e : _≡_ {A = Option ℕ} (some move) none = search all in absurd (some-not-none e)
+met order sheet (reached s rows) all = record { s = s; rows = rows; is = refl }
 
 -- the figures that retiming writes into the header are true
 own-figures : (given : Heading) (s : State) → falseFigures (retimedHeading given s) s ≡ false
@@ -126,10 +126,10 @@ module _ (map order sheet out : List ℕ) (number-0 : retimingReply map order sh
   room = ltb-false _ _ (placed-none (sheetNeeded (movesOn sheet)) (none-behind (sheetTests (orderOf order) sheet found) short-test late-tests .0))
 
   ended : Met found
-  ended = met found (sheet-tests .1 .0)
+  ended = met (orderOf order) sheet found sheet-tests
 
   whole : Whole sheet
-  whole = none-whole sheet (sheet-tests .0)
+  whole = none-whole sheet (none-under 15 (sheetTests (orderOf order) sheet found) sheet-tests)
 
   -- the state that the moves reach, and the records with true clocks
   pub reached-state : State
@@ -181,7 +181,7 @@ module _ (map order sheet out : List ℕ) (number-0 : retimingReply map order sh
   kept-whole = ap tornSheet kept-is ∙ prefix-untorn heading true-rows out (sym row-count) (omega (arith, whole, row-count))
 
   pub at-target : stray (orderOf order .target) (reached reached-state true-rows) ≡ none
-  at-target = rw found-reached at (sheet-tests .1 .1 .0)
+  at-target = none-under 19 (sheetTests (orderOf order) sheet (reached reached-state true-rows)) (rw found-reached at sheet-tests)
 
   audit-tests : NoneFits (sheetTests (orderOf order) kept (reached reached-state true-rows) ++ ((18 at falseHeader (headingOf kept) (reached reached-state true-rows)) ∷ []))
   audit-tests = (kept-whole, (refl, (at-target, (rw figures-true refl, tt))))
