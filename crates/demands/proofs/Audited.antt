@@ -9,6 +9,7 @@ use borrow.Author.Tests.{eqb-true, not-false}
 use lib.Dec.{eqb}
 use lib.ListN.{length}
 use Rattle.booleans.proofs.Tests.{cases, or-false}
+use Rattle.seconds.specs.declared.Clock.{Clock}
 use Rattle.replies.specs.First.{Test, _at_, NoneFits}
 use Rattle.replies.specs.Told.{succeeded}
 use Rattle.replies.proofs.First.{none-fitted, none-at-all, none-before, none-behind, none-under}
@@ -37,20 +38,20 @@ walk-same : (trip : Trip) (k : ℕ) (s : State) (rs : List Row) {l : State} {ys 
 walk-same trip k s [] {l} {ys} e = cc (walk-end true trip k s)
 walk-same trip k s (row ∷ rs) {l} {ys} e = by (one-row true trip k s row) (λ t zs p. walk-same trip (k + 1) t rs p)
   where
-    own-clock : (t : State) → stepped trip s (moveOf row) ≡ Moved t → row .clock ≡ t .clock .0
+    own-clock : (t : State) → stepped trip s (moveOf row) ≡ Moved t → row .clock ≡ t .clock
     own-clock t moved =
         ⊎-elim
-        (λ (same : eqb (row .clock) (t .clock .0) ≡ true). eqb-true _ _ same)
-        (λ (other : eqb (row .clock) (t .clock .0) ≡ false).
+        (λ (same : eqb (row .clock .0) (t .clock .0) ≡ true). ap (λ (n : ℕ). record { 0 = n }) (eqb-true _ _ same))
+        (λ (other : eqb (row .clock .0) (t .clock .0) ≡ false).
         let stopped : walk true trip k s (row ∷ rs) ≡ refused 18 k = walk-moved true trip k s row rs moved ∙ rw other refl in
         absurd (never-reached (sym stopped ∙ e)))
-        (cases (eqb (row .clock) (t .clock .0)))
+        (cases (eqb (row .clock .0) (t .clock .0)))
 
     by : OneRow true trip k s row → ((t : State) (zs : List Row) → walk true trip (k + 1) t rs ≡ reached l zs → rs ≡ zs) → row ∷ rs ≡ ys
     by (stops number late always) on = absurd (never-reached (sym (always rs) ∙ e))
     by (passes t moved always) on =
         let first = cut (trueRow row t) (walk true trip (k + 1) t rs) l ys (sym (always rs) ∙ e) in
-        ap (λ (c : ℕ). record { kind = row .kind; number = row .number; clock = c } ∷ rs) (own-clock t moved)
+        ap (λ (c : Clock). record { kind = row .kind; number = row .number; clock = c } ∷ rs) (own-clock t moved)
         ∙ ap (λ (zs : List Row). trueRow row t ∷ zs) (on t (first .zs) (first .rest))
         ∙ sym (first .is)
 
@@ -116,9 +117,9 @@ module _ (bytes order sheet : List ℕ) (number-0 : auditReply bytes order sheet
         long = long;
         journey = record { leads = passed .leads; ends = at-target };
         clocks = own-rows ∙ passed .clocks;
-        arrival = eqb-true _ _ (not-false _ (first .0));
-        spell = eqb-true _ _ (not-false _ (rest .0));
-        shift = eqb-true _ _ (not-false _ (rest .1));
+        arrival = ap (λ (n : ℕ). record { 0 = n }) (eqb-true _ _ (not-false _ (first .0)));
+        spell = ap (λ (n : ℕ). record { 0 = n }) (eqb-true _ _ (not-false _ (rest .0)));
+        shift = ap (λ (n : ℕ). record { 0 = n }) (eqb-true _ _ (not-false _ (rest .1)));
       }
 
   pub audited-told : auditReply bytes order sheet ≡ succeeded (movesOn sheet) (reached-by .clock .0)

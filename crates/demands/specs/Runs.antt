@@ -45,9 +45,9 @@ pub record HoldsJourney (trip : Trip) (sheet : List ℕ) (t : State) : Type 0 wh
   pub journey : Journey trip (movesRead sheet) t
   -- each record has the clock after its move
   pub clocks : rowsOf sheet 1 (movesOn sheet) ≡ rowsFrom trip (startIn trip) (movesRead sheet)
-  pub arrival : headingOf sheet .arrival ≡ t .clock .0
-  pub spell : headingOf sheet .spell ≡ t .spell .0
-  pub shift : headingOf sheet .shift ≡ t .shift .0
+  pub arrival : headingOf sheet .arrival ≡ t .clock
+  pub spell : headingOf sheet .spell ≡ t .spell
+  pub shift : headingOf sheet .shift ≡ t .shift
 
 -- the header and the M records of a written sheet
 abbrev pub headerAndRecords : List ℕ → List ℕ

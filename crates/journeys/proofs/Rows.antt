@@ -23,7 +23,7 @@ rowMove r = move (r .kind) (r .number)
 
 -- the row of a move that leads to t
 abbrev pub rowAt : Move → State → Row
-rowAt m t = record { kind = m .kind; number = m .number; clock = t .clock .0 }
+rowAt m t = record { kind = m .kind; number = m .number; clock = t .clock }
 
 module _ (trip : Trip) where
   pub rows-length : (s : State) (ms : List Move) → length (rowsFrom trip s ms) ≡ length ms

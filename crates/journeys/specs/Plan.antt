@@ -68,7 +68,7 @@ unfolding after
 rowsFrom trip s [] = []
 rowsFrom trip s (m ∷ ms) =
     let t = after trip s m in
-    record { kind = m .kind; number = m .number; clock = t .clock .0 } ∷ rowsFrom trip t ms
+    record { kind = m .kind; number = m .number; clock = t .clock } ∷ rowsFrom trip t ms
 
 unfoldable pub planRows : Trip → List Row
 unfolding rowsFrom planMoves
@@ -77,7 +77,7 @@ planRows trip = rowsFrom trip (startIn trip) (planMoves trip)
 -- the header: moves M, arrival, spell, shift, N
 abbrev pub headingAt : Trip → State → Heading
 headingAt trip a =
-    record { moves = moveCount trip; arrival = a .clock .0; spell = a .spell .0; shift = a .shift .0; labels = labelCount trip }
+    record { moves = moveCount trip; arrival = a .clock; spell = a .spell; shift = a .shift; labels = labelCount trip }
 
 -- the sheet afterwards, where there is an answer: header and records, bytes after 20 + 12M stay
 abbrev pub plannedSheet : Trip → Option State → List ℕ → List ℕ

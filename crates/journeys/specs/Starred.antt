@@ -63,7 +63,7 @@ pub data Case : Type 0 where
   dominating : State → State → Bool → Case
 
 abbrev pub row : ℕ → ℕ → ℕ → Row
-row kind number clock = record { kind = kind; number = number; clock = clock }
+row kind number clock = record { kind = kind; number = number; clock = record { 0 = clock } }
 
 abbrev pub sameBool : Bool → Bool → Bool
 sameBool true b = b
@@ -77,7 +77,7 @@ sameRows [] [] = true
 sameRows [] (b ∷ rest) = false
 sameRows (a ∷ more) [] = false
 sameRows (a ∷ more) (b ∷ rest) =
-    (eqb (a .kind) (b .kind) && (eqb (a .number) (b .number) && eqb (a .clock) (b .clock))) && sameRows more rest
+    (eqb (a .kind) (b .kind) && (eqb (a .number) (b .number) && eqb (a .clock .0) (b .clock .0))) && sameRows more rest
 
 abbrev pub hasFigures : ℕ → ℕ → ℕ → Option State → Bool
 hasFigures clock spell shift none = false

@@ -101,7 +101,7 @@ fn put_move(page: &mut [u8; PAGE_BYTES], used: usize, map: &[u8], run: Run, row:
     end = put_byte(page, end, b' ');
     let junction = reached(map, run, row);
     end = put_text(page, end, mapedit::name(map, junction));
-    end = put_number(page, end, row.clock as u64);
+    end = put_number(page, end, row.clock.0 as u64);
     put_byte(page, end, b'\n')
 }
 
@@ -127,9 +127,9 @@ fn put_arrival(page: &mut [u8; PAGE_BYTES], used: usize, heading: Heading) -> us
     ensures { λ r. ⌜ r ≤ 4096 ⌝ }
 {
     let mut end = put_text(page, used, b"arrive");
-    end = put_number(page, end, heading.arrival as u64);
-    end = put_number(page, end, heading.spell as u64);
-    end = put_number(page, end, heading.shift as u64);
+    end = put_number(page, end, heading.arrival.0 as u64);
+    end = put_number(page, end, heading.spell.0 as u64);
+    end = put_number(page, end, heading.shift.0 as u64);
     end = put_text(page, end, b" labels");
     end = put_number(page, end, heading.labels as u64);
     put_byte(page, end, b'\n')

@@ -31,7 +31,7 @@ use Rattle.planner.specs.Parts.{HandedBack}
 -- the header of so many moves to a label, which is the last of so many
 abbrev pub headingFor : ℕ → Label → ℕ → Heading
 headingFor moves label n =
-    record { moves = moves; arrival = label .clock; spell = label .spell; shift = label .shift; labels = n }
+    record { moves = moves; arrival = record { 0 = label .clock }; spell = record { 0 = label .spell }; shift = record { 0 = label .shift }; labels = n }
 
 module _ (map : List ℕ) (run : Run) (words : List ℕ) (n : ℕ) (found : Found map run words n) where
   abbrev trip : Trip

@@ -16,6 +16,7 @@ use replies::Planning;
 use replies::Refusal;
 use search::Outcome;
 use seconds::Clock;
+use seconds::Wheel;
 use sheets::Heading;
 
 // Writes the plan to a sheet that is long enough. The answer is the last label.
@@ -34,17 +35,18 @@ fn write_plan(
 {
     readback::write_moves(map, run, words, n, moves, sheet);
     let label = labels::read_label(words, n);
+    let arrival = Clock(label.clock);
     let heading = Heading {
         moves: moves as u32,
-        arrival: label.clock,
-        spell: label.spell,
-        shift: label.shift,
+        arrival,
+        spell: Wheel(label.spell),
+        shift: Wheel(label.shift),
         labels: n as u32,
     };
     sheets::put_heading(sheet, heading);
     Planning::Planned {
         labels: heading.labels,
-        arrival: Clock(heading.arrival),
+        arrival,
     }
 }
 

@@ -11,4 +11,4 @@ use Rattle.journeys.specs.Plan.{moveTo}
 pub record RowFor (trip : Trip) (p t : State) (row : Row) : Type 0 where
   pub by : Move
   pub lowest : moveTo trip p t ≡ some by
-  pub is : row ≡ record { kind = by .kind; number = by .number; clock = t .clock .0 }
+  pub is : row ≡ record { kind = by .kind; number = by .number; clock = t .clock }

@@ -133,10 +133,11 @@ fn row_for(map: &[u8], run: Run, p: State, t: State) -> Row
     ensures { λ r. ⌜ RowFor (tripIn (now (map .entry)) run) p t r ⌝ }
 {
     let by = move_to(map, run, p, t);
+    let clock = t.clock;
     Row {
         kind: by.kind,
         number: by.number,
-        clock: t.clock.0,
+        clock,
     }
 }
 

@@ -31,7 +31,7 @@ use Rattle.retiming.proofs.Rewriting.{reached-is, walk-length}
 -- the header with true figures
 abbrev pub retimedHeading : Heading → State → Heading
 retimedHeading given s =
-    record { moves = given .moves; arrival = s .clock .0; spell = s .spell .0; shift = s .shift .0; labels = given .labels }
+    record { moves = given .moves; arrival = s .clock; spell = s .spell; shift = s .shift; labels = given .labels }
 
 module _ (map : List ℕ) (order : Order) (sheet before : List ℕ) where
   abbrev timed : Walk

@@ -34,9 +34,9 @@ module _ (clocks : Bool) (trip : Trip) (k : ℕ) (s : State) (row : Row) (rows :
   walk-overrun e = rw (e, walk)
 
   pub walk-moved : {t : State} → stepped trip s (moveOf row) ≡ Moved t →
-      walk clocks trip k s (row ∷ rows) ≡ pickWalk (clocks && not (eqb (row .clock) (t .clock .0))) (refused 18 k) (recorded (trueRow row t) (walk clocks trip (k + 1) t rows))
+      walk clocks trip k s (row ∷ rows) ≡ pickWalk (clocks && not (eqb (row .clock .0) (t .clock .0))) (refused 18 k) (recorded (trueRow row t) (walk clocks trip (k + 1) t rows))
   unfolding walk
-  walk-moved {t} e = rw (e, walk) (two (clocks && not (eqb (row .clock) (t .clock .0))))
+  walk-moved {t} e = rw (e, walk) (two (clocks && not (eqb (row .clock .0) (t .clock .0))))
     where
       two : (b : Bool) → (elim b as (λ x. Walk) [ true ↦ refused 18 k | false ↦ recorded (trueRow row t) (walk clocks trip (k + 1) t rows) ]) ≡ pickWalk b (refused 18 k) (recorded (trueRow row t) (walk clocks trip (k + 1) t rows))
       two true = refl
@@ -79,14 +79,14 @@ module _ (clocks : Bool) (trip : Trip) (k : ℕ) (s : State) (row : Row) where
   pub one-row : OneRow clocks trip k s row
   one-row = at (stepped trip s (moveOf row)) refl
     where
-      by-clock : (t : State) → stepped trip s (moveOf row) ≡ Moved t → (b : Bool) → (clocks && not (eqb (row .clock) (t .clock .0))) ≡ b → OneRow clocks trip k s row
+      by-clock : (t : State) → stepped trip s (moveOf row) ≡ Moved t → (b : Bool) → (clocks && not (eqb (row .clock .0) (t .clock .0))) ≡ b → OneRow clocks trip k s row
       by-clock t e true is = stops 18 (lit≤ tt) (λ rows. walk-moved clocks trip k s row rows e ∙ rw is refl)
       by-clock t e false is = passes t e (λ rows. walk-moved clocks trip k s row rows e ∙ rw is refl)
 
       at : (x : Step) → stepped trip s (moveOf row) ≡ x → OneRow clocks trip k s row
       at Foreign e = stops 16 (lit≤ tt) (λ rows. walk-foreign clocks trip k s row rows e)
       at Overrun e = stops 17 (lit≤ tt) (λ rows. walk-overrun clocks trip k s row rows e)
-      at (Moved t) e = by-clock t e (clocks && not (eqb (row .clock) (t .clock .0))) refl
+      at (Moved t) e = by-clock t e (clocks && not (eqb (row .clock .0) (t .clock .0))) refl
 
   says : (r : Walked) {v w : Walk} → v ≡ w → WalkSays v r → WalkSays w r
   says r e g = subst (λ (x : Walk). WalkSays x r) e g
@@ -123,7 +123,7 @@ module _ (clocks : Bool) (trip : Trip) (k : ℕ) (s : State) (row : Row) where
   -- and a state that its move led to is judged by its clock alone
   pub says-clock : {t : State} (r : Walked) → stepped trip s (moveOf row) ≡ Moved t → WalkSays (clockWalk clocks k (row .clock) t) r →
       WalkSays (walk clocks trip k s (row ∷ [])) r
-  says-clock {t} r e h = says r (sym (walk-moved clocks trip k s row [] e)) (by (clocks && not (eqb (row .clock) (t .clock .0))) h)
+  says-clock {t} r e h = says r (sym (walk-moved clocks trip k s row [] e)) (by (clocks && not (eqb (row .clock .0) (t .clock .0))) h)
     where
       by : (b : Bool) → WalkSays (pickWalk b (refused 18 k) (reached t [])) r → WalkSays (pickWalk b (refused 18 k) (recorded (trueRow row t) (walk clocks trip (k + 1) t []))) r
       by true g = g

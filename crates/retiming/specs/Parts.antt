@@ -5,6 +5,7 @@ use mathlib.Core.List.{List, [], _∷_, _++_}
 use Prim.Native.Nat.{ℕ}
 use lib.Dec.{eqb}
 use lib.ListN.{length}
+use Rattle.seconds.specs.declared.Clock.{Clock}
 use Rattle.replies.specs.declared.Reply.{Reply}
 use Rattle.replies.specs.declared.Timing.{Timing}
 use Rattle.replies.specs.First.{_at_, firstOf, NoneFits, Refuses}
@@ -24,8 +25,8 @@ pickWalk true a b = a
 pickWalk false a b = b
 
 -- a state that a legal move led to, and the record's clock
-abbrev pub clockWalk : Bool → ℕ → ℕ → State → Walk
-clockWalk clocks k clock s = pickWalk (clocks && not (eqb clock (s .clock .0))) (refused 18 k) (reached s [])
+abbrev pub clockWalk : Bool → ℕ → Clock → State → Walk
+clockWalk clocks k clock s = pickWalk (clocks && not (eqb (clock .0) (s .clock .0))) (refused 18 k) (reached s [])
 
 -- the walk's end, without its records
 abbrev pub WalkSays : Walk → Walked → Type 0

@@ -52,9 +52,9 @@ retimedTo heading (reached s rows) out =
     sheetAfter
     (record {
       moves = heading .moves;
-      arrival = s .clock .0;
-      spell = s .spell .0;
-      shift = s .shift .0;
+      arrival = s .clock;
+      spell = s .spell;
+      shift = s .shift;
       labels = heading .labels;
     })
     rows
@@ -75,8 +75,8 @@ pub record Retimed (map order sheet before after : List ℕ) (answer : Timing) :
 -- 18 false figure in the header: arrival, spell or shift; M + 1
 unfoldable pub falseFigures : Heading → State → Bool
 falseFigures heading s =
-    not (eqb (heading .arrival) (s .clock .0))
-    || (not (eqb (heading .spell) (s .spell .0)) || not (eqb (heading .shift) (s .shift .0)))
+    not (eqb (heading .arrival .0) (s .clock .0))
+    || (not (eqb (heading .spell .0) (s .spell .0)) || not (eqb (heading .shift .0) (s .shift .0)))
 
 abbrev pub falseHeader : Heading → Walk → Option ℕ
 falseHeader heading (refused number move) = none

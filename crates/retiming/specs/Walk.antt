@@ -21,7 +21,7 @@ abbrev pub moveOf : Row → Move
 moveOf row = move (row .kind) (row .number)
 
 abbrev pub trueRow : Row → State → Row
-trueRow row s = record { kind = row .kind; number = row .number; clock = s .clock .0 }
+trueRow row s = record { kind = row .kind; number = row .number; clock = s .clock }
 
 abbrev pub recorded : Row → Walk → Walk
 recorded row (refused number move) = refused number move
@@ -35,7 +35,7 @@ walk clocks trip k s (row ∷ rows) =
       | Foreign ↦ refused 16 k
       | Overrun ↦ refused 17 k
       | Moved t ↦
-          elim (clocks && not (eqb (row .clock) (t .clock .0)))
+          elim (clocks && not (eqb (row .clock .0) (t .clock .0)))
           [ true ↦ refused 18 k | false ↦ recorded (trueRow row t) (walk clocks trip (k + 1) t rows) ]
     ]
 

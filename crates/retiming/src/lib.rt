@@ -19,6 +19,7 @@ use moves::State;
 use moves::Step;
 use replies::Refusal;
 use replies::Timing;
+use seconds::Clock;
 use sheets::Heading;
 use sheets::Row;
 
@@ -29,13 +30,13 @@ pub enum Walked {
 }
 
 // A state that an offered, legal move led to: where clocks are compared, the record's must be its own.
-fn judge_clock(state: State, clock: u32, k: usize, clocks: bool) -> Walked
+fn judge_clock(state: State, clock: Clock, k: usize, clocks: bool) -> Walked
     ensures { λ r. ⌜ WalkSays (clockWalk clocks k clock state) r ⌝ }
 {
     if !clocks {
         return Walked::Reached(state);
     }
-    if clock != state.clock.0 {
+    if clock.0 != state.clock.0 {
         return Walked::Refused(Refusal::FalseFigure(k));
     }
     Walked::Reached(state)
@@ -106,13 +107,13 @@ fn judge_sheet(map: &[u8], run: Run, sheet: &[u8], clocks: bool) -> Walked
 fn header_is_false(heading: Heading, state: State) -> bool
     ensures { λ r. ⌜ r ≡ falseFigures heading state ⌝ }
 {
-    if heading.arrival != state.clock.0 {
+    if heading.arrival.0 != state.clock.0 {
         return true;
     }
-    if heading.spell != state.spell.0 {
+    if heading.spell.0 != state.spell.0 {
         return true;
     }
-    heading.shift != state.shift.0
+    heading.shift.0 != state.shift.0
 }
 
 fn audit_run(map: &[u8], run: Run, sheet: &[u8]) -> Timing
@@ -165,10 +166,11 @@ fn write_rows(map: &[u8], run: Run, sheet: &[u8], out: &mut [u8])
         match walked {
             Walked::Refused(_why) => return,
             Walked::Reached(next) => {
+                let clock = next.clock;
                 let timed = Row {
                     kind: row.kind,
                     number: row.number,
-                    clock: next.clock.0,
+                    clock,
                 };
                 sheets::write_row(out, k, timed);
                 state = next;
@@ -192,15 +194,17 @@ fn retime_run(map: &[u8], run: Run, sheet: &[u8], out: &mut [u8]) -> Timing
                 return Timing::Refused(Refusal::ShortSheet(needed));
             }
             write_rows(map, run, sheet, out);
+            let arrival = state.clock;
+            let spell = state.spell;
+            let shift = state.shift;
             let heading = Heading {
                 moves: given.moves,
-                arrival: state.clock.0,
-                spell: state.spell.0,
-                shift: state.shift.0,
+                arrival,
+                spell,
+                shift,
                 labels: given.labels,
             };
             sheets::put_heading(out, heading);
-            let arrival = state.clock;
             Timing::Timed {
                 moves: given.moves,
                 arrival,

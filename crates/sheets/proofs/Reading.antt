@@ -38,20 +38,20 @@ pub heading-here : (h : Heading) (t : List ℕ) → headingOf (headingBytes h ++
 unfolding headingBytes wordBytes wordAt
 heading-here h t =
     let w1 : wordAt (headingBytes h ++ t) 0 ≡ h .moves = digits (h .moves) in
-    let w2 : wordAt (headingBytes h ++ t) 4 ≡ h .arrival = digits (h .arrival) in
-    let w3 : wordAt (headingBytes h ++ t) 8 ≡ h .spell = digits (h .spell) in
-    let w4 : wordAt (headingBytes h ++ t) 12 ≡ h .shift = digits (h .shift) in
+    let w2 : wordAt (headingBytes h ++ t) 4 ≡ h .arrival .0 = digits (h .arrival .0) in
+    let w3 : wordAt (headingBytes h ++ t) 8 ≡ h .spell .0 = digits (h .spell .0) in
+    let w4 : wordAt (headingBytes h ++ t) 12 ≡ h .shift .0 = digits (h .shift .0) in
     let w5 : wordAt (headingBytes h ++ t) 16 ≡ h .labels = digits (h .labels) in
-    λ i. record { moves = w1 i; arrival = w2 i; spell = w3 i; shift = w4 i; labels = w5 i }
+    λ i. record { moves = w1 i; arrival = record { 0 = w2 i }; spell = record { 0 = w3 i }; shift = record { 0 = w4 i }; labels = w5 i }
 
 -- the three words from `at` on
 abbrev rowFrom : List ℕ → ℕ → Row
 rowFrom bytes at =
-    record { kind = wordAt bytes at; number = wordAt bytes (at + 4); clock = wordAt bytes (at + 8) }
+    record { kind = wordAt bytes at; number = wordAt bytes (at + 4); clock = record { 0 = wordAt bytes (at + 8) } }
 
 row-here : (row : Row) (t : List ℕ) → rowFrom (rowBytes row ++ t) 0 ≡ row
 unfolding rowBytes wordBytes wordAt
-row-here row t = λ i. record { kind = digits (row .kind) i; number = digits (row .number) i; clock = digits (row .clock) i }
+row-here row t = λ i. record { kind = digits (row .kind) i; number = digits (row .number) i; clock = record { 0 = digits (row .clock .0) i } }
 
 row-past : (p t : List ℕ) (n at : ℕ) → length p ≡ n → rowFrom (p ++ t) (n + at) ≡ rowFrom t at
 row-past p t n at e =
@@ -81,7 +81,7 @@ length-rows-of sheet k zero = refl
 length-rows-of sheet k (suc n) = ap suc (length-rows-of sheet (k + 1) n)
 
 blank : Row
-blank = record { kind = 0; number = 0; clock = 0 }
+blank = record { kind = 0; number = 0; clock = record { 0 = 0 } }
 
 pub length-after : (h : Heading) (rows : List Row) (s : List ℕ) → sheetNeeded (length rows) ≤ length s → length (sheetAfter h rows s) ≡ length s
 unfolding sheetAfter

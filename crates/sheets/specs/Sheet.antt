@@ -28,21 +28,21 @@ sheetNeeded m = headerBytes + recordBytes * m
 -- the header, five words: moves M, arrival, spell, shift, N
 unfoldable pub headingBytes : Heading → List ℕ
 headingBytes h =
-    wordBytes (h .moves) ++ wordBytes (h .arrival) ++ wordBytes (h .spell) ++ wordBytes (h .shift) ++ wordBytes (h .labels)
+    wordBytes (h .moves) ++ wordBytes (h .arrival .0) ++ wordBytes (h .spell .0) ++ wordBytes (h .shift .0) ++ wordBytes (h .labels)
 
 abbrev pub headingOf : List ℕ → Heading
 headingOf sheet =
     record {
       moves = wordAt sheet 0;
-      arrival = wordAt sheet 4;
-      spell = wordAt sheet 8;
-      shift = wordAt sheet 12;
+      arrival = record { 0 = wordAt sheet 4 };
+      spell = record { 0 = wordAt sheet 8 };
+      shift = record { 0 = wordAt sheet 12 };
       labels = wordAt sheet 16;
     }
 
 -- then M records of three words: kind, number, clock after
 unfoldable pub rowBytes : Row → List ℕ
-rowBytes row = wordBytes (row .kind) ++ wordBytes (row .number) ++ wordBytes (row .clock)
+rowBytes row = wordBytes (row .kind) ++ wordBytes (row .number) ++ wordBytes (row .clock .0)
 
 unfoldable pub rowsBytes : List Row → List ℕ
 rowsBytes [] = []
@@ -54,7 +54,7 @@ rowAt sheet k =
     record {
       kind = wordAt sheet (sheetNeeded (k - 1));
       number = wordAt sheet (sheetNeeded (k - 1) + 4);
-      clock = wordAt sheet (sheetNeeded (k - 1) + 8);
+      clock = record { 0 = wordAt sheet (sheetNeeded (k - 1) + 8) };
     }
 
 -- the n records from number k on

@@ -4,15 +4,17 @@ ghost use mathlib.Core.Path.{_≡_};
 ghost use Prim.Native.Nat.{_*_, _≤_};
 ghost use lib.ListN.{length};
 ghost use Rattle.sheets.specs.Sheet.{headerBytes, recordBytes, sheetNeeded, headingOf, rowAt, torn, withHeading, withRowBehind, withRow};
+use seconds::Clock;
+use seconds::Wheel;
 use words::put_word;
 use words::word;
 
 // The header's five words.
 pub struct Heading {
     pub moves: u32,
-    pub arrival: u32,
-    pub spell: u32,
-    pub shift: u32,
+    pub arrival: Clock,
+    pub spell: Wheel,
+    pub shift: Wheel,
     pub labels: u32,
 }
 
@@ -26,7 +28,7 @@ impl Heading {
 pub struct Row {
     pub kind: u32,
     pub number: u32,
-    pub clock: u32,
+    pub clock: Clock,
 }
 
 impl Row {
@@ -46,9 +48,9 @@ pub fn read_heading(sheet: &[u8]) -> Heading
 {
     Heading {
         moves: word(sheet, 0),
-        arrival: word(sheet, 4),
-        spell: word(sheet, 8),
-        shift: word(sheet, 12),
+        arrival: Clock(word(sheet, 4)),
+        spell: Wheel(word(sheet, 8)),
+        shift: Wheel(word(sheet, 12)),
         labels: word(sheet, 16),
     }
 }
@@ -62,7 +64,7 @@ pub fn read_row(sheet: &[u8], k: usize) -> Row
     Row {
         kind: word(sheet, at),
         number: word(sheet, at + 4),
-        clock: word(sheet, at + 8),
+        clock: Clock(word(sheet, at + 8)),
     }
 }
 
@@ -85,9 +87,9 @@ pub fn put_heading(sheet: &mut [u8], heading: Heading)
     ensures { λ _. ⌜ now (sheet .exit) ≡ withHeading (now (sheet .entry)) heading ⌝ }
 {
     put_word(sheet, 0, heading.moves);
-    put_word(sheet, 4, heading.arrival);
-    put_word(sheet, 8, heading.spell);
-    put_word(sheet, 12, heading.shift);
+    put_word(sheet, 4, heading.arrival.0);
+    put_word(sheet, 8, heading.spell.0);
+    put_word(sheet, 12, heading.shift.0);
     put_word(sheet, 16, heading.labels);
 }
 
@@ -99,7 +101,7 @@ pub fn put_row(part: &mut [u8], k: usize, row: Row)
     let at = Row::BYTES * (k - 1);
     put_word(part, at, row.kind);
     put_word(part, at + 4, row.number);
-    put_word(part, at + 8, row.clock);
+    put_word(part, at + 8, row.clock.0);
 }
 
 // Writes record k, counted from 1, into a sheet.

@@ -4,8 +4,8 @@ use Rattle.planner.proofs.Handing.{moves-below, handed-written}
 use Rattle.planner.proofs.write_plan.Statement.{statement}
 use Rattle.planner.proofs.write_plan.Tie as tie
 
-cast-t12 : tie.Need-cast-t12
-cast-t12 c =
+cast-t13 : tie.Need-cast-t13
+cast-t13 c =
     let s = c .before .before .before .before .before .before .before .before in
     let a = s .args in
     omega (arith, s .pre .1 .0, s .pre .1 .1 .0, moves-below (a .map .now) (a .run) (a .words .now) (a .n) (s .pre .0))
@@ -25,7 +25,7 @@ write-plan-spec =
     (tie.spec
     (λ c κs. search needs)
     (λ c κs. search needs)
-    cast-t12
+    cast-t13
     (λ c. search needs)
     (λ c κs. search needs)
     (λ c. search needs)

@@ -50,8 +50,8 @@ returns-2 c =
 
 returns-3 : tie.Need-returns-3
 returns-3 c =
-    let put = c .before .before .before in
-    let wrote = put .before .before .before .before in
+    let put = c .before .before in
+    let wrote = put .before .before .before .before .before .before .before in
     let chosen = wrote .before .before in
     let read = chosen .before .before in
     let reached = read .before in

@@ -75,13 +75,14 @@ long c =
 
 write-row-requires : tie.Need-write-row-requires Inv-loop μ-loop
 write-row-requires c κs =
-    let at-loop = c .before .before .before .before .before .before .before in
+    let in-loop = c .before .before .before .before .before .before .before in
+    let at-loop = in-loop .before in
     let start = at-loop .before .before .before .before .before .before .before in
-    (at-loop .loop .inv .low, omega (arith, long at-loop, start .pre .1 .1 .1, at-loop .before .before .word .ensures, c .before .before .before .before .before .before .loop-test .taken))
+    (at-loop .loop .inv .low, omega (arith, long at-loop, start .pre .1 .1 .1, at-loop .before .before .word .ensures, in-loop .loop-test .taken))
 
 loop-again : tie.Need-loop-again Inv-loop μ-loop
 loop-again c =
-    let reached = c .before .before .before .before in
+    let reached = c .before .before .before .before .before in
     let walked = reached .before .before .before in
     let at-loop = walked .before .before .before in
     let start = at-loop .before .before .before .before .before .before .before in
