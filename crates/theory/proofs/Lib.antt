@@ -8,3 +8,6 @@ pub mod Settling
 pub mod Labels
 pub mod Endings
 pub mod Parents
+pub mod Figures
+pub mod Numbers
+pub mod Changes

@@ -5,3 +5,5 @@ pub mod States
 pub mod Settling
 pub mod Reachable
 pub mod Labels
+pub mod Figures
+pub mod Numbers
