@@ -36,18 +36,31 @@ unfolding firstBroken
 none-broken [] all = refl
 none-broken (r ∷ rs) all = simp (all .0) (none-broken rs (all .1))
 
+-- what stands in two lists put behind each other is kept in each, and the other way round
+kept-first : (rs more : List Rule) → AllKept (rs ++ more) → AllKept rs
+kept-first [] more all = tt
+kept-first (r ∷ rs) more all = (all .0, kept-first rs more (all .1))
+
+kept-second : (rs more : List Rule) → AllKept (rs ++ more) → AllKept more
+kept-second [] more all = all
+kept-second (r ∷ rs) more all = kept-second rs more (all .1)
+
+kept-both : (rs more : List Rule) → AllKept rs → AllKept more → AllKept (rs ++ more)
+kept-both [] more first second = second
+kept-both (r ∷ rs) more first second = (first .0, kept-both rs more (first .1) second)
+
 -- refusal 10 does not fit exactly the sound rules
 pub rules-sound : (r : Rules) → badRules r ≡ none → SoundRules r
 unfolding badRules
 rules-sound r e =
-    let k = all-kept (limitRules r) e in
+    let kept = all-kept (limitRules r) e in
     record {
-      spell-limit-low = leb-true _ _ (k .0);
-      break-low = leb-true _ _ (k .1 .0);
-      limits-rise = leb-true _ _ (k .1 .1 .0);
-      shift-limit-high = leb-true _ _ (k .1 .1 .1 .0);
-      pauses-rise = leb-true _ _ (k .1 .1 .1 .1 .0);
-      rest-high = leb-true _ _ (k .1 .1 .1 .1 .1 .0);
+      spell-limit-low = leb-true _ _ (search kept);
+      break-low = leb-true _ _ (search kept);
+      limits-rise = leb-true _ _ (search kept);
+      shift-limit-high = leb-true _ _ (search kept);
+      pauses-rise = leb-true _ _ (search kept);
+      rest-high = leb-true _ _ (search kept);
     }
 
 pub sound-rules-pass : (r : Rules) → SoundRules r → badRules r ≡ none
@@ -60,35 +73,36 @@ pub european-sound : SoundRules europeanRules
 european-sound =
     record { spell-limit-low = lit≤ tt; limits-rise = lit≤ tt; shift-limit-high = lit≤ tt; break-low = lit≤ tt; pauses-rise = lit≤ tt; rest-high = lit≤ tt }
 
+-- the starting figures' part of refusal 11
+figures-kept : (f : Figures) (r : Rules) → AllKept (figureRules f r) → SoundFigures f r
+figures-kept f r kept =
+    record { spell-high = leb-true _ _ (search kept); figures-rise = leb-true _ _ (search kept); shift-high = leb-true _ _ (search kept) }
+
+kept-figures : (f : Figures) (r : Rules) → SoundFigures f r → AllKept (figureRules f r)
+kept-figures f r s = (le-leb _ _ (s .spell-high), (le-leb _ _ (s .figures-rise), (le-leb _ _ (s .shift-high), tt)))
+
 pub figures-sound : (f : Figures) (r : Rules) → badFigures f r ≡ none → SoundFigures f r
 unfolding badFigures
-figures-sound f r e =
-    let k = all-kept (figureRules f r) e in
-    record { spell-high = leb-true _ _ (k .0); figures-rise = leb-true _ _ (k .1 .0); shift-high = leb-true _ _ (k .1 .1 .0) }
+figures-sound f r e = figures-kept f r (all-kept (figureRules f r) e)
 
 pub sound-figures-pass : (f : Figures) (r : Rules) → SoundFigures f r → badFigures f r ≡ none
 unfolding badFigures
-sound-figures-pass f r s =
-    none-broken (figureRules f r) (le-leb _ _ (s .spell-high), (le-leb _ _ (s .figures-rise), (le-leb _ _ (s .shift-high), tt)))
+sound-figures-pass f r s = none-broken (figureRules f r) (kept-figures f r s)
 
 -- refusals 10 and 11 do not fit exactly the orders whose words keep every rule
 pub order-sound : (junctions : ℕ) (o : Order) → badRules (o .rules) ≡ none → badTrip junctions o ≡ none → AcceptedOrder junctions o
 unfolding badTrip
 order-sound junctions o e10 e11 =
-    let k = all-kept (endRules junctions o ++ figureRules (o .figures) (o .rules)) e11 in
+    let all = all-kept (endRules junctions o ++ figureRules (o .figures) (o .rules)) e11 in
+    let kept = kept-first (endRules junctions o) (figureRules (o .figures) (o .rules)) all in
     record {
-      source-low = leb-true _ _ (k .0);
-      source-high = leb-true _ _ (k .1 .0);
-      target-low = leb-true _ _ (k .1 .1 .0);
-      target-high = leb-true _ _ (k .1 .1 .1 .0);
-      times-rise = leb-true _ _ (k .1 .1 .1 .1 .0);
-      latest-high = leb-true _ _ (k .1 .1 .1 .1 .1 .0);
-      sound-figures =
-          record {
-            spell-high = leb-true _ _ (k .1 .1 .1 .1 .1 .1 .0);
-            figures-rise = leb-true _ _ (k .1 .1 .1 .1 .1 .1 .1 .0);
-            shift-high = leb-true _ _ (k .1 .1 .1 .1 .1 .1 .1 .1 .0);
-          };
+      source-low = leb-true _ _ (search kept);
+      source-high = leb-true _ _ (search kept);
+      target-low = leb-true _ _ (search kept);
+      target-high = leb-true _ _ (search kept);
+      times-rise = leb-true _ _ (search kept);
+      latest-high = leb-true _ _ (search kept);
+      sound-figures = figures-kept (o .figures) (o .rules) (kept-second (endRules junctions o) (figureRules (o .figures) (o .rules)) all);
       sound-rules = rules-sound (o .rules) e10;
     }
 
@@ -96,7 +110,9 @@ pub sound-trip-passes : (junctions : ℕ) (o : Order) → AcceptedOrder junction
 unfolding badTrip
 sound-trip-passes junctions o s =
     none-broken (endRules junctions o ++ figureRules (o .figures) (o .rules))
-    (le-leb _ _ (s .source-low), (le-leb _ _ (s .source-high), (le-leb _ _ (s .target-low), (le-leb _ _ (s .target-high), (le-leb _ _ (s .times-rise), (le-leb _ _ (s .latest-high), (le-leb _ _ (s .sound-figures .spell-high), (le-leb _ _ (s .sound-figures .figures-rise), (le-leb _ _ (s .sound-figures .shift-high), tt)))))))))
+    (kept-both (endRules junctions o) (figureRules (o .figures) (o .rules))
+    (le-leb _ _ (s .source-low), (le-leb _ _ (s .source-high), (le-leb _ _ (s .target-low), (le-leb _ _ (s .target-high), (le-leb _ _ (s .times-rise), (le-leb _ _ (s .latest-high), tt))))))
+    (kept-figures (o .figures) (o .rules) (s .sound-figures)))
 
 pub order-length : (bytes : List ℕ) → badOrder bytes ≡ none → length bytes ≡ orderBytes
 order-length bytes e =

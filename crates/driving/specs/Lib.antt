@@ -1,3 +1,4 @@
 pub mod Order
+pub mod Hours
 pub mod Accepted
 pub mod Steps

@@ -1,11 +1,15 @@
-// The driver's rules, the order, and the order check: refusals 9 to 11.
+// The driver's rules and figures, the order, and the order check: refusals 9 to 11.
 ghost use mathlib.Core.Path.{_≡_};
 ghost use mathlib.Core.List.{[], _∷_};
+ghost use Prim.Native.Nat.{_≤_};
+ghost use lib.Dec.{T};
 ghost use lib.ListN.{length};
+ghost use Rattle.theory.specs.Figures.{noneAbove};
 ghost use Rattle.replies.specs.Told.{succeeded, toldCheck};
 ghost use Rattle.replies.specs.First.{_at_, firstOf};
 ghost use Rattle.driving.specs.Steps.{firstRefused, ruledBy};
 ghost use Rattle.driving.specs.Order.{europeanRules, orderBytes, orderOf, badRules, badEnds, badFigures, badTrip, orderTests};
+ghost use Rattle.driving.specs.Hours.{wheelFigures, highestLimits, drivenOn, firstPause, lastPause, pauseSeconds, cleared};
 use replies::Check;
 use replies::Refusal;
 use seconds::Clock;
@@ -29,6 +33,15 @@ impl Rules {
 
     pub const EUROPEAN_REST_TIME: Clock = Clock(39600);
 
+    // The kinds of pause, as moves number them.
+    pub const BREAK: u32 = 2;
+
+    pub const REST: u32 = 3;
+
+    pub const FIRST_PAUSE: u32 = Rules::BREAK;
+
+    pub const LAST_PAUSE: u32 = Rules::REST;
+
     pub fn european() -> Rules
         ensures { λ r. ⌜ r ≡ europeanRules ⌝ }
     {
@@ -45,6 +58,48 @@ impl Rules {
 pub struct Figures {
     pub spell: Wheel,
     pub shift: Wheel,
+}
+
+// The figures after driving on: one road time is added to each.
+pub fn driven(figures: Figures, seconds: u32) -> Figures
+    requires { ⌜ T (noneAbove (wheelFigures figures) highestLimits) × (seconds ≤ 1440000) ⌝ }
+    ensures { λ r. ⌜ r ≡ drivenOn seconds figures ⌝ }
+{
+    Figures {
+        spell: Wheel(figures.spell.0 + seconds),
+        shift: Wheel(figures.shift.0 + seconds),
+    }
+}
+
+// How long a pause of this kind takes.
+pub fn pause_time(rules: Rules, kind: u32) -> Clock
+    requires { ⌜ (firstPause ≤ kind) × (kind ≤ lastPause) ⌝ }
+    ensures { λ r. ⌜ r .0 ≡ pauseSeconds rules kind ⌝ }
+{
+    if kind == Rules::BREAK {
+        rules.break_time
+    } else {
+        rules.rest_time
+    }
+}
+
+// The figures after a pause of this kind: a break clears spell, and a rest clears shift too.
+pub fn cleared(figures: Figures, kind: u32) -> Figures
+    requires { ⌜ (firstPause ≤ kind) × (kind ≤ lastPause) ⌝ }
+    ensures { λ r. ⌜ r ≡ cleared kind figures ⌝ }
+{
+    let shift = figures.shift;
+    if kind == Rules::BREAK {
+        Figures {
+            spell: Wheel(0),
+            shift,
+        }
+    } else {
+        Figures {
+            spell: Wheel(0),
+            shift: Wheel(0),
+        }
+    }
 }
 
 // What one trip asks, and the rules that it is driven by.
