@@ -1,5 +1,4 @@
 -- The laws of candidates.
-pub mod Ranking
 pub mod Results
 pub mod Trials
 pub mod Cursors

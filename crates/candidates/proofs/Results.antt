@@ -1,15 +1,15 @@
--- What a cursor's move leads to, by its kind. Assumes nothing.
-use mathlib.Core.Path.{_≡_, _∙_, sym, ap}
-use mathlib.Core.Bool.{Bool, true, false}
+-- What a cursor's move is and leads to: a drive, or a pause by its kind. Assumes nothing.
+use mathlib.Core.Path.{_≡_, ap}
 use mathlib.Core.List.{List}
-use Prim.Native.Nat.{ℕ, _+_, _≤_, _<_}
+use Prim.Native.Nat.{ℕ, _+_, _-_, _≤_}
 use native.Mathlib.Omega.{arith}
-use borrow.Author.Tests.{eq-eqb, ne-eqb, le-leb, lt-leb}
+use borrow.Author.Tests.{ne-eqb, le-leb, lt-leb}
 use Rattle.roadmap.specs.Format.{roadCount}
 use Rattle.driving.specs.declared.Order.{Order}
-use Rattle.moves.specs.declared.State.{State}
+use Rattle.driving.specs.Hours.{firstPause}
+use Rattle.states.specs.declared.State.{State}
 use Rattle.moves.specs.Trip.{stretchOf, tripOf}
-use Rattle.moves.specs.Moves.{move, pauseMove, driven, afterBreak, afterRest, paused, after}
+use Rattle.moves.specs.Moves.{move, driven, paused, after}
 use Rattle.moves.proofs.Trips.{roads-in, order-in, road-in}
 use Rattle.candidates.specs.Candidates.{moveAt, resultAt}
 
@@ -22,21 +22,15 @@ module _ (map : List ℕ) (o : Order) (s : State) (cursor : ℕ) where
   unfolding moveAt
   move-drive high = rw (roads-in map o, le-leb _ _ high)
 
-  pub move-break : cursor ≡ roadCount map + 1 → moveAt (tripOf map o) s cursor ≡ move 2 (s .junction)
+  pub move-pause : (kind : ℕ) → firstPause ≤ kind → cursor ≡ roadCount map + (kind - 1) → moveAt (tripOf map o) s cursor ≡ move kind (s .junction)
   unfolding moveAt
-  move-break is = rw (roads-in map o, lt-leb cursor (roadCount map) (omega arith), roads-in map o, eq-eqb cursor (roadCount map + 1) is)
+  move-pause kind low is =
+      rw (roads-in map o, lt-leb cursor (roadCount map) (omega arith), roads-in map o) (ap (λ (k : ℕ). move k (s .junction)) same)
+    where
+      same : cursor - roadCount map + 1 ≡ kind
+      same = omega arith
 
-  pub move-rest : roadCount map < cursor → (cursor ≡ roadCount map + 1 → ⊥) → moveAt (tripOf map o) s cursor ≡ move 3 (s .junction)
-  unfolding moveAt
-  move-rest past other = rw (roads-in map o, lt-leb _ _ past, roads-in map o, ne-eqb cursor (roadCount map + 1) other)
-
-  after-pause : (short : Bool) → after (tripOf map o) s (pauseMove short (s .junction)) ≡ paused short (o .rules) s
+  pub result-pause : (kind : ℕ) → firstPause ≤ kind → cursor ≡ roadCount map + (kind - 1) → paused kind (o .rules) s ≡ resultAt (tripOf map o) s cursor
   unfolding after
-  after-pause true = ap (λ (r : Order). afterBreak (r .rules) s) (order-in map o)
-  after-pause false = ap (λ (r : Order). afterRest (r .rules) s) (order-in map o)
-
-  pub result-break : cursor ≡ roadCount map + 1 → afterBreak (o .rules) s ≡ resultAt (tripOf map o) s cursor
-  result-break is = sym (ap (after (tripOf map o) s) (move-break is) ∙ after-pause true)
-
-  pub result-rest : roadCount map < cursor → (cursor ≡ roadCount map + 1 → ⊥) → afterRest (o .rules) s ≡ resultAt (tripOf map o) s cursor
-  result-rest past other = sym (ap (after (tripOf map o) s) (move-rest past other) ∙ after-pause false)
+  result-pause kind low is =
+      rw (move-pause kind low is, ne-eqb kind 1 (λ e. omega arith), order-in map o)

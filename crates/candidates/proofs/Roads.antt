@@ -10,7 +10,7 @@ use Rattle.mapcheck.specs.MapCheck.{mapTests, AcceptedMap}
 use Rattle.mapcheck.proofs.Listed.{MapMade, map-made, LowestFrom, lowest-from}
 use Rattle.mapcheck.proofs.Sound.{links-of}
 use Rattle.driving.specs.declared.Order.{Order}
-use Rattle.moves.specs.declared.State.{State}
+use Rattle.states.specs.declared.State.{State}
 use Rattle.moves.specs.Trip.{tripOf, stretchOf}
 use Rattle.moves.specs.Moves.{driven}
 use Rattle.moves.proofs.Trips.{roads-in, order-in}

@@ -1,7 +1,7 @@
 -- The best of the cursors tried, one after the other. Assumes nothing.
 use mathlib.Core.Path.{_≡_, _∙_, sym, ap}
 use mathlib.Core.Bool.{Bool, true, false, not}
-use mathlib.Core.List.{List, Memᴰ·map}
+use mathlib.Core.List.{List}
 use mathlib.Core.Logic.{⊎-elim}
 use Prim.Native.Nat.{ℕ, _+_, _≤_, _<_}
 use native.Mathlib.Omega.{arith}
@@ -10,25 +10,19 @@ use borrow.Author.Tests.{ltb-true, ltb-false}
 use lib.Dec.{T, T-not, not-T, ltb}
 use Rattle.booleans.proofs.Tests.{cases, not-both, T-true, true-T}
 use Rattle.driving.specs.declared.Order.{Order}
-use Rattle.moves.specs.declared.State.{State}
+use Rattle.driving.specs.Hours.{lastPause}
+use Rattle.states.specs.declared.State.{State}
 use Rattle.moves.specs.Trip.{Trip, roadsIn}
-use Rattle.moves.specs.Moves.{offers, legal}
-use Rattle.theory.specs.States.{Covered}
+use Rattle.moves.specs.Moves.{offers}
+use Rattle.states.specs.States.{legal, ranksNoHigher}
 use Rattle.theory.proofs.Sorting.{le-of-not, never-self}
-use Rattle.journeys.specs.Ranked.{covers, ranksNoHigher}
-use Rattle.journeys.proofs.Ranked.{rank-order, slack-covers}
-use Rattle.labels.specs.LabelWords.{settled}
-use Rattle.labels.specs.Lists.{SomeCovers, Says}
+use Rattle.states.proofs.Compared.{rank-order}
+use Rattle.labels.specs.Lists.{Says}
 use Rattle.candidates.specs.declared.Bound.{Bound}
 use Rattle.candidates.specs.declared.Best.{Best}
-use Rattle.candidates.specs.Candidates.{stateOf, labelOf, statesOf, moveAt, resultAt, Names}
+use Rattle.candidates.specs.Candidates.{moveAt, resultAt, Names}
 use Rattle.candidates.specs.Next.{aboveBound}
 use Rattle.candidates.specs.Trying.{BelowBest, Beats, Weighed, taken, kept, BestBelow}
-
--- what a label covers is covered by the state that the label stands for
-pub covered-state : (ws : List ℕ) (n : ℕ) (t : State) → SomeCovers (settled ws n) (labelOf t) → Covered covers (statesOf ws n) t
-covered-state ws n t (a, at, over) =
-    (stateOf a, Memᴰ·map stateOf at, slack-covers (stateOf a) t (record { same = over .here; clock = omega arith; spell = omega arith; shift = omega arith }))
 
 -- where b does not rank at or below t, t ranks below b
 pub is-lower : (b t : State) → ranksNoHigher b t ≡ false → T (not (ranksNoHigher b t))
@@ -81,7 +75,7 @@ module _ (trip : Trip) (labels : List State) (s : State) (bound : Bound) where
       }
 
   -- one more trial, of a cursor that names an offered move
-  pub tried-next : (best next r : Best) → BestBelow trip labels s bound (next .cursor) best → 1 ≤ next .cursor → next .cursor ≤ roadsIn trip + 2
+  pub tried-next : (best next r : Best) → BestBelow trip labels s bound (next .cursor) best → 1 ≤ next .cursor → next .cursor < roadsIn trip + lastPause
       → offers trip s (moveAt trip s (next .cursor)) ≡ true → next .state ≡ resultAt trip s (next .cursor)
       → Weighed (trip .order) labels bound best next r → BestBelow trip labels s bound (next .cursor + 1) r
   tried-next best next r tried low high offered is (taken better) =

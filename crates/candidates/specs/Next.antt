@@ -3,11 +3,11 @@ use mathlib.Core.Bool.{Bool, true, not}
 use mathlib.Core.List.{List, List·Memᴰ}
 use Prim.Native.Nat.{ℕ, _≤_}
 use lib.Dec.{T}
-use Rattle.moves.specs.declared.State.{State}
+use Rattle.states.specs.declared.State.{State}
 use Rattle.moves.specs.Trip.{Trip}
 use Rattle.theory.specs.States.{Covered}
 use Rattle.journeys.specs.Journeys.{succs}
-use Rattle.journeys.specs.Ranked.{covers, ranksNoHigher}
+use Rattle.states.specs.States.{covers, ranksNoHigher}
 use Rattle.candidates.specs.declared.Bound.{Bound}
 use Rattle.candidates.specs.Candidates.{Names, resultAt}
 

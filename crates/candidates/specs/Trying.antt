@@ -5,11 +5,10 @@ use mathlib.Core.List.{List}
 use Prim.Native.Nat.{ℕ, _≤_, _<_}
 use lib.Dec.{T}
 use Rattle.driving.specs.declared.Order.{Order}
-use Rattle.moves.specs.declared.State.{State}
-use Rattle.moves.specs.Moves.{legal}
+use Rattle.states.specs.declared.State.{State}
+use Rattle.states.specs.States.{legal, covers, ranksNoHigher}
 use Rattle.moves.specs.Trip.{Trip}
 use Rattle.theory.specs.States.{Covered}
-use Rattle.journeys.specs.Ranked.{covers, ranksNoHigher}
 use Rattle.candidates.specs.declared.Bound.{Bound}
 use Rattle.candidates.specs.declared.Best.{Best}
 use Rattle.candidates.specs.Candidates.{Names, resultAt}

@@ -1,20 +1,19 @@
-// The candidates of settled labels: what a cursor names, how two states rank, and which candidate is next.
+// The candidates of settled labels: what a cursor names, and which candidate is next.
 ghost use mathlib.Core.Path.{_≡_};
-ghost use Prim.Native.Nat.{_+_, _<_};
+ghost use Prim.Native.Nat.{_+_, _-_, _≤_, _<_};
 ghost use lib.ListN.{length};
 ghost use Rattle.roadmap.specs.Format.{junctionCount, roadCount};
+ghost use Rattle.driving.specs.Hours.{firstPause, lastPause};
 ghost use Rattle.moves.specs.Runs.{Accepted, InRange, tripIn};
-ghost use Rattle.journeys.specs.Ranked.{ranksNoHigher};
+ghost use Rattle.labels.specs.LabelWords.{settled};
 ghost use Rattle.labels.specs.Lists.{Lists, Says};
-ghost use Rattle.candidates.specs.Candidates.{stateOf, labelOf, statesOf, resultAt, Names};
+ghost use Rattle.candidates.specs.Candidates.{resultAt, Names};
 ghost use Rattle.candidates.specs.Next.{aboveBound, NextIs};
 ghost use Rattle.candidates.specs.Trying.{Beats, Weighed, BestBelow};
 use driving::Order;
-use labels::Label;
+use driving::Rules;
 use moves::Run;
-use moves::State;
-use seconds::Clock;
-use seconds::Wheel;
+use states::State;
 
 // What a candidate must rank above.
 pub enum Bound {
@@ -28,44 +27,6 @@ pub struct Best {
     pub state: State,
 }
 
-pub fn state_of(label: Label) -> State
-    ensures { λ r. ⌜ r ≡ stateOf label ⌝ }
-{
-    State {
-        junction: label.junction,
-        clock: Clock(label.clock),
-        spell: Wheel(label.spell),
-        shift: Wheel(label.shift),
-    }
-}
-
-pub fn label_of(state: State) -> Label
-    ensures { λ r. ⌜ r ≡ labelOf state ⌝ }
-{
-    Label {
-        junction: state.junction,
-        clock: state.clock.0,
-        spell: state.spell.0,
-        shift: state.shift.0,
-    }
-}
-
-// Whether b ranks no higher than a: by clock, spell, shift, junction.
-pub fn ranks_no_higher(b: State, a: State) -> bool
-    ensures { λ r. ⌜ r ≡ ranksNoHigher b a ⌝ }
-{
-    if b.clock.0 != a.clock.0 {
-        return b.clock.0 < a.clock.0;
-    }
-    if b.spell.0 != a.spell.0 {
-        return b.spell.0 < a.spell.0;
-    }
-    if b.shift.0 != a.shift.0 {
-        return b.shift.0 < a.shift.0;
-    }
-    b.junction <= a.junction
-}
-
 // The state that a cursor's move leads to.
 pub fn result_at(map: &[u8], run: Run, state: State, cursor: u32) -> State
     requires { ⌜ Accepted (now map) run ⌝ }
@@ -77,10 +38,7 @@ pub fn result_at(map: &[u8], run: Run, state: State, cursor: u32) -> State
     if cursor <= sizes.roads {
         return moves::after_drive(map, run, state, cursor);
     }
-    if cursor == sizes.roads + 1 {
-        return moves::after_break(run, state);
-    }
-    moves::after_rest(run, state)
+    moves::after_pause(run, state, cursor - sizes.roads + 1)
 }
 
 fn above_bound(bound: Bound, state: State) -> bool
@@ -88,7 +46,7 @@ fn above_bound(bound: Bound, state: State) -> bool
 {
     match bound {
         Bound::Nothing => true,
-        Bound::Above(c) => !ranks_no_higher(state, c),
+        Bound::Above(c) => !states::ranks_no_higher(state, c),
     }
 }
 
@@ -96,11 +54,11 @@ fn above_bound(bound: Bound, state: State) -> bool
 fn beats(order: Order, bound: Bound, best: Best, state: State) -> bool
     ensures { λ r. ⌜ Says (Beats order bound best state) r ⌝ }
 {
-    if !moves::is_legal(order, state) {
+    if !states::is_legal(order, state) {
         return false;
     }
     if 0 < best.cursor {
-        if ranks_no_higher(best.state, state) {
+        if states::ranks_no_higher(best.state, state) {
             return false;
         }
     }
@@ -121,13 +79,12 @@ fn consider(
     next: Best,
 ) -> Best
     requires { ⌜ Lists (now words) (now heads) (now spells) (now shifts) n × (next .state .junction < length (now heads)) ⌝ }
-    ensures { λ r. ⌜ Weighed order (statesOf (now (words .entry)) n) bound best next r ⌝ }
+    ensures { λ r. ⌜ Weighed order (settled (now (words .entry)) n) bound best next r ⌝ }
 {
     if !beats(order, bound, best, next.state) {
         return best;
     }
-    let label = label_of(next.state);
-    if labels::covered(words, heads, spells, shifts, n, label) {
+    if labels::covered(words, heads, spells, shifts, n, next.state) {
         return best;
     }
     next
@@ -148,7 +105,7 @@ fn best_road(
     requires { ⌜ Accepted (now map) run ⌝ }
     requires { ⌜ InRange (junctionCount (now map)) (run .order) state ⌝ }
     requires { ⌜ Lists (now words) (now heads) (now spells) (now shifts) n × (junctionCount (now map) < length (now heads)) ⌝ }
-    ensures { λ r. ⌜ BestBelow (tripIn (now (map .entry)) run) (statesOf (now (words .entry)) n) state bound (roadCount (now (map .entry)) + 1) r ⌝ }
+    ensures { λ r. ⌜ BestBelow (tripIn (now (map .entry)) run) (settled (now (words .entry)) n) state bound (roadCount (now (map .entry)) + 1) r ⌝ }
 {
     let sizes = run.sizes;
     let order = run.order;
@@ -166,8 +123,8 @@ fn best_road(
     best
 }
 
-// The best with the break and the rest, the last two cursors, where the junction is a car park.
-fn best_pause(
+// The best with the pause of this kind, where the rules offer it.
+fn try_pause(
     map: &[u8],
     run: Run,
     words: &[u32],
@@ -178,30 +135,65 @@ fn best_pause(
     state: State,
     bound: Bound,
     best: Best,
+    kind: u32,
 ) -> Best
     requires { ⌜ Accepted (now map) run ⌝ }
     requires { ⌜ InRange (junctionCount (now map)) (run .order) state ⌝ }
     requires { ⌜ Lists (now words) (now heads) (now spells) (now shifts) n × (junctionCount (now map) < length (now heads)) ⌝ }
-    requires { ⌜ BestBelow (tripIn (now map) run) (statesOf (now words) n) state bound (roadCount (now map) + 1) best ⌝ }
-    ensures { λ r. ⌜ BestBelow (tripIn (now (map .entry)) run) (statesOf (now (words .entry)) n) state bound (roadCount (now (map .entry)) + 3) r ⌝ }
+    requires { ⌜ (firstPause ≤ kind) × (kind ≤ lastPause) ⌝ }
+    requires { ⌜ BestBelow (tripIn (now map) run) (settled (now words) n) state bound (roadCount (now map) + (kind - 1)) best ⌝ }
+    ensures { λ r. ⌜ BestBelow (tripIn (now (map .entry)) run) (settled (now (words .entry)) n) state bound (roadCount (now (map .entry)) + kind) r ⌝ }
 {
     let order = run.order;
-    let roads = run.sizes.roads;
-    if !moves::is_park(map, run, state.junction) {
+    if !moves::may_pause(map, run, state, kind) {
         return best;
     }
-    let after_break = moves::after_break(run, state);
-    let short = Best {
-        cursor: roads + 1,
-        state: after_break,
+    let reached = moves::after_pause(run, state, kind);
+    let next = Best {
+        cursor: run.sizes.roads + (kind - 1),
+        state: reached,
     };
-    let better = consider(order, words, heads, spells, shifts, n, bound, best, short);
-    let after_rest = moves::after_rest(run, state);
-    let long = Best {
-        cursor: roads + 2,
-        state: after_rest,
-    };
-    consider(order, words, heads, spells, shifts, n, bound, better, long)
+    consider(order, words, heads, spells, shifts, n, bound, best, next)
+}
+
+// The best with the pauses, whose cursors follow the roads by kind.
+fn best_pause(
+    map: &[u8],
+    run: Run,
+    words: &[u32],
+    heads: &[u32],
+    spells: &[u32],
+    shifts: &[u32],
+    n: usize,
+    state: State,
+    bound: Bound,
+    road: Best,
+) -> Best
+    requires { ⌜ Accepted (now map) run ⌝ }
+    requires { ⌜ InRange (junctionCount (now map)) (run .order) state ⌝ }
+    requires { ⌜ Lists (now words) (now heads) (now spells) (now shifts) n × (junctionCount (now map) < length (now heads)) ⌝ }
+    requires { ⌜ BestBelow (tripIn (now map) run) (settled (now words) n) state bound (roadCount (now map) + 1) road ⌝ }
+    ensures { λ r. ⌜ BestBelow (tripIn (now (map .entry)) run) (settled (now (words .entry)) n) state bound (roadCount (now (map .entry)) + lastPause) r ⌝ }
+{
+    let mut best = road;
+    let mut kind = Rules::FIRST_PAUSE;
+    while kind <= Rules::LAST_PAUSE {
+        best = try_pause(
+            map,
+            run,
+            words,
+            heads,
+            spells,
+            shifts,
+            n,
+            state,
+            bound,
+            best,
+            kind,
+        );
+        kind += 1;
+    }
+    best
 }
 
 // The cursor of the lowest-ranked successor above the bound that no label covers, 0 where there is none.
@@ -219,7 +211,7 @@ pub fn next_candidate(
     requires { ⌜ Accepted (now map) run ⌝ }
     requires { ⌜ InRange (junctionCount (now map)) (run .order) state ⌝ }
     requires { ⌜ Lists (now words) (now heads) (now spells) (now shifts) n × (junctionCount (now map) < length (now heads)) ⌝ }
-    ensures { λ r. ⌜ NextIs (tripIn (now (map .entry)) run) (statesOf (now (words .entry)) n) state bound r ⌝ }
+    ensures { λ r. ⌜ NextIs (tripIn (now (map .entry)) run) (settled (now (words .entry)) n) state bound r ⌝ }
 {
     let road = best_road(map, run, words, heads, spells, shifts, n, state, bound);
     let best = best_pause(

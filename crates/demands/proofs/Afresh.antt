@@ -16,7 +16,8 @@ use Rattle.replies.proofs.First.{none-of-both, none-at-all}
 use Rattle.roadmap.specs.Format.{junctionCount}
 use Rattle.mapcheck.specs.MapCheck.{mapTests}
 use Rattle.driving.specs.Order.{orderOf, orderTests}
-use Rattle.moves.specs.declared.State.{State}
+use Rattle.states.specs.declared.State.{State}
+use Rattle.states.proofs.Compared.{covers-clock}
 use Rattle.moves.specs.declared.Move.{Move}
 use Rattle.moves.specs.Trip.{Trip, tripOf}
 use Rattle.moves.specs.Moves.{after}
@@ -103,6 +104,6 @@ afresh {mapA} {orderA} {mapB} {orderB} accepted-a accepted-b easier run plans =
     record {
       state = eased .timed-plan .reached;
       journey = rw (moves-written w) (eased .timed-plan .journey);
-      no-later = omega (arith, ap (λ (r : Reply). r .arrival) (w .told), eased .timed-plan .near .clock);
+      no-later = omega (arith, ap (λ (r : Reply). r .arrival) (w .told), covers-clock _ _ (eased .timed-plan .over));
       told = λ {out} timed. timed .retimed .reply ∙ retimed-afresh w accepted-b (eased .timed-plan .journey) out (timed .long);
     }

@@ -15,7 +15,7 @@ use Rattle.replies.specs.Told.{succeeded}
 use Rattle.replies.proofs.First.{none-fitted, none-at-all, none-before, none-behind, none-under}
 use Rattle.mapcheck.proofs.Counts.{placed-none}
 use Rattle.driving.specs.Order.{orderOf}
-use Rattle.moves.specs.declared.State.{State}
+use Rattle.states.specs.declared.State.{State}
 use Rattle.moves.specs.declared.Step.the-variants.{Moved}
 use Rattle.moves.specs.Trip.{Trip, tripOf}
 use Rattle.moves.specs.Moves.{stepped}

@@ -7,17 +7,17 @@ use mathlib.Core.Option.{Option, none, some}
 use Prim.Native.Nat.{ℕ, suc}
 use lib.Dec.{T}
 use lib.ListN.{length}
-use Rattle.moves.specs.declared.State.{State}
+use Rattle.states.specs.declared.State.{State}
 use Rattle.moves.specs.declared.Move.{Move}
 use Rattle.moves.specs.Trip.{Trip}
 use Rattle.moves.proofs.Rising.{SoundTrip}
 use Rattle.theory.specs.Lists.{choose, insert, sorted, Distinct, distinct-nil, distinct-cons, StrictlySorted, sorted-nil, sorted-cons}
 use Rattle.theory.specs.Labels.{within}
 use Rattle.theory.proofs.Sorting.{never-self, sorted-from, sorted-in, sorted-strict}
-use Rattle.journeys.specs.Journeys.{Journey}
-use Rattle.journeys.specs.Ranked.{ranksNoHigher, UndominatedIn}
+use Rattle.journeys.specs.Journeys.{Journey, UndominatedIn}
+use Rattle.states.specs.States.{ranksNoHigher}
 use Rattle.journeys.specs.Labels.{answerIn, labelsIn, labelCount}
-use Rattle.journeys.proofs.Ranked.{rank-order}
+use Rattle.states.proofs.Compared.{rank-order}
 use Rattle.journeys.proofs.Labels.{answer-reached, answer-ends, answer-lowest, none-answered, label-exactly, labels-rise, labels-only}
 use Rattle.demands.specs.Counted.{IsCounted, CountsLabels}
 

@@ -22,7 +22,7 @@ use Rattle.mapcheck.specs.MapCheck.{mapTests, chainingTests, AcceptedMap}
 use Rattle.mapedit.specs.Name.{unknownName, nameReply}
 use Rattle.mapedit.specs.Chaining.{chained, chainingReply, afterChaining, ChainMaking}
 use Rattle.driving.specs.Order.{orderOf, orderTests}
-use Rattle.moves.specs.declared.State.{State}
+use Rattle.states.specs.declared.State.{State}
 use Rattle.moves.specs.declared.Move.{Move}
 use Rattle.moves.specs.Trip.{Trip, tripOf}
 use Rattle.sheets.specs.declared.Heading.{Heading}
@@ -30,10 +30,11 @@ use Rattle.sheets.specs.Sheet.{headingOf, sheetNeeded}
 use Rattle.retiming.specs.Retiming.{movesOn, timing, retimingTests, auditTests, auditReply, Retimed}
 use Rattle.theory.specs.Lists.{memb}
 use Rattle.journeys.specs.Journeys.{Journey, totalSeconds}
-use Rattle.journeys.specs.Ranked.{ranksNoHigher}
+use Rattle.states.specs.States.{ranksNoHigher}
 use Rattle.journeys.specs.Labels.{labelCount}
 use Rattle.journeys.specs.Plan.{bytesNeeded}
-use Rattle.journeys.specs.Planning.{labelsThatFit, beforeSearch, tripFrom, planTests, planReply}
+use Rattle.journeys.specs.Planning.{beforeSearch, tripFrom, planTests, planReply}
+use Rattle.states.specs.LabelSpace.{labelsThatFit}
 use Rattle.journeys.specs.Compared.{EasierRun}
 use Rattle.retiming.proofs.Audited.{retiming-numbered, audit-numbered}
 use Rattle.journeys.proofs.Journeys.{leads-clock}

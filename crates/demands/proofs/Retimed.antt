@@ -13,7 +13,7 @@ use Rattle.replies.specs.declared.Timing.{Timing}
 use Rattle.replies.specs.Told.{succeeded, toldTiming}
 use Rattle.mapcheck.proofs.Counts.{placed-none}
 use Rattle.driving.specs.Order.{orderOf}
-use Rattle.moves.specs.declared.State.{State}
+use Rattle.states.specs.declared.State.{State}
 use Rattle.moves.specs.declared.Move.{Move}
 use Rattle.moves.specs.Trip.{Trip, tripOf}
 use Rattle.sheets.specs.declared.Heading.{Heading}

@@ -19,14 +19,15 @@ use Rattle.roadmap.specs.Format.{junctionCount}
 use Rattle.mapcheck.specs.MapCheck.{mapTests, AcceptedMap}
 use Rattle.driving.specs.Order.{orderTests}
 use Rattle.theory.specs.Lists.{memb}
-use Rattle.moves.specs.declared.State.{State}
+use Rattle.states.specs.declared.State.{State}
 use Rattle.moves.specs.declared.Move.{Move}
 use Rattle.moves.specs.Trip.{Trip}
 use Rattle.moves.proofs.Rising.{SoundTrip}
 use Rattle.journeys.specs.Journeys.{Journey}
 use Rattle.journeys.specs.Labels.{answerIn, labelCount}
 use Rattle.journeys.specs.Plan.{bytesNeeded}
-use Rattle.journeys.specs.Planning.{labelsThatFit, beforeSearch, tripFrom, searchTests, planned, planReply, searchReply}
+use Rattle.journeys.specs.Planning.{beforeSearch, tripFrom, searchTests, planned, planReply, searchReply}
+use Rattle.states.specs.LabelSpace.{labelsThatFit}
 use Rattle.journeys.proofs.Labels.{none-answered, no-journey}
 use Rattle.journeys.proofs.Planning.{accepted-sound, reply-accepted, full-exactly, no-road-exactly, reply-full, reply-no-road, reply-short, reply-planned}
 use Rattle.planner.specs.Planned.{Planned}

@@ -9,7 +9,7 @@ use lib.ListN.{length, take, drop}
 use Rattle.replies.specs.declared.Reply.{Reply}
 use Rattle.replies.specs.declared.Planning.{Planning}
 use Rattle.replies.specs.Told.{succeeded, toldPlan}
-use Rattle.moves.specs.declared.State.{State}
+use Rattle.states.specs.declared.State.{State}
 use Rattle.moves.specs.declared.Move.{Move}
 use Rattle.moves.specs.Trip.{Trip}
 use Rattle.moves.proofs.Rising.{SoundTrip}
@@ -19,10 +19,11 @@ use Rattle.sheets.proofs.Reading.{length-after, prefix-heading, prefix-rows, le
 use Rattle.retiming.specs.Walk.{moveOf}
 use Rattle.retiming.specs.Retiming.{movesOn}
 use Rattle.journeys.specs.Journeys.{startIn, Journey}
-use Rattle.journeys.specs.Ranked.{ranksNoHigher}
+use Rattle.states.specs.States.{ranksNoHigher}
 use Rattle.journeys.specs.Labels.{answerIn, labelCount}
 use Rattle.journeys.specs.Plan.{planMoves, bytesNeeded, rowsFrom, planRows, headingAt, plannedSheet}
-use Rattle.journeys.specs.Planning.{labelsThatFit, tripFrom}
+use Rattle.journeys.specs.Planning.{tripFrom}
+use Rattle.states.specs.LabelSpace.{labelsThatFit}
 use Rattle.journeys.proofs.Journeys.{leads-one}
 use Rattle.journeys.proofs.Labels.{answer-lowest, answer-earliest}
 use Rattle.journeys.proofs.Plan.{plan-journey}

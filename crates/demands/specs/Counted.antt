@@ -5,12 +5,12 @@ use mathlib.Core.Logic.{_↔_}
 use Prim.Native.Nat.{ℕ}
 use lib.Dec.{T}
 use lib.ListN.{length}
-use Rattle.moves.specs.declared.State.{State}
+use Rattle.states.specs.declared.State.{State}
 use Rattle.moves.specs.declared.Move.{Move}
 use Rattle.moves.specs.Trip.{Trip}
 use Rattle.theory.specs.Lists.{Distinct}
-use Rattle.journeys.specs.Journeys.{Journey}
-use Rattle.journeys.specs.Ranked.{ranksNoHigher, UndominatedIn}
+use Rattle.journeys.specs.Journeys.{Journey, UndominatedIn}
+use Rattle.states.specs.States.{ranksNoHigher}
 
 -- reachable and undominated, and ranking no higher than the answer's state: no higher than the end of any legal journey
 pub record IsCounted (trip : Trip) (u : State) : Type 0 where

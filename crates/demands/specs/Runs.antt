@@ -11,7 +11,7 @@ use Rattle.replies.specs.Told.{toldPlan}
 use Rattle.roadmap.specs.Format.{junctionCount}
 use Rattle.mapcheck.specs.MapCheck.{AcceptedMap}
 use Rattle.driving.specs.Order.{orderTests}
-use Rattle.moves.specs.declared.State.{State}
+use Rattle.states.specs.declared.State.{State}
 use Rattle.moves.specs.declared.Move.{Move}
 use Rattle.moves.specs.Trip.{Trip}
 use Rattle.sheets.specs.Sheet.{headingOf, rowsOf, sheetNeeded}
@@ -46,8 +46,8 @@ pub record HoldsJourney (trip : Trip) (sheet : List ℕ) (t : State) : Type 0 wh
   -- each record has the clock after its move
   pub clocks : rowsOf sheet 1 (movesOn sheet) ≡ rowsFrom trip (startIn trip) (movesRead sheet)
   pub arrival : headingOf sheet .arrival ≡ t .clock
-  pub spell : headingOf sheet .spell ≡ t .spell
-  pub shift : headingOf sheet .shift ≡ t .shift
+  pub spell : headingOf sheet .spell ≡ t .figures .spell
+  pub shift : headingOf sheet .shift ≡ t .figures .shift
 
 -- the header and the M records of a written sheet
 abbrev pub headerAndRecords : List ℕ → List ℕ

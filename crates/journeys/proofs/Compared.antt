@@ -6,13 +6,14 @@ use mathlib.Core.Option.{some}
 use Prim.Native.Nat.{_≤_}
 use native.Mathlib.Omega.{arith}
 use lib.Dec.{T}
-use Rattle.moves.specs.declared.State.{State}
+use Rattle.states.specs.declared.State.{State}
 use Rattle.moves.specs.declared.Move.{Move}
 use Rattle.moves.specs.Trip.{Trip}
-use Rattle.moves.specs.Compared.{Slack, Eases}
+use Rattle.moves.specs.Compared.{Eases}
 use Rattle.moves.proofs.Rising.{SoundTrip}
 use Rattle.journeys.specs.Journeys.{startIn, atTarget, Journey}
-use Rattle.journeys.specs.Ranked.{ranksNoHigher}
+use Rattle.states.specs.States.{covers, ranksNoHigher}
+use Rattle.states.proofs.Compared.{covers-junction, covers-clock}
 use Rattle.journeys.specs.Labels.{answerIn}
 use Rattle.journeys.specs.Plan.{planMoves}
 use Rattle.journeys.proofs.Journeys.{eased-leads}
@@ -23,7 +24,7 @@ use Rattle.journeys.proofs.Plan.{plan-journey}
 pub record EasedJourney (tb : Trip) (ms : List Move) (t : State) : Type 0 where
   pub reached : State
   pub journey : Journey tb ms reached
-  pub near : Slack 0 reached t
+  pub over : T (covers reached t)
 
 -- A's answer is a: its plan's moves are a legal journey in B that arrives no later, and B's answer is no later than that
 pub record EasedAnswer (tb ta : Trip) (a : State) : Type 0 where
@@ -34,13 +35,13 @@ pub record EasedAnswer (tb ta : Trip) (a : State) : Type 0 where
   pub no-later : answer .clock .0 ≤ timed-plan .reached .clock .0
   pub earlier : answer .clock .0 ≤ a .clock .0
 
-module _ (tb ta : Trip) (eases : Eases tb ta) (starts : Slack 0 (startIn tb) (startIn ta)) (targets : tb .order .target ≡ ta .order .target) where
+module _ (tb ta : Trip) (eases : Eases tb ta) (starts : T (covers (startIn tb) (startIn ta))) (targets : tb .order .target ≡ ta .order .target) where
   -- A's journey is a legal journey in B that arrives no later
   pub eased-journey : {ms : List Move} {t : State} → Journey ta ms t → EasedJourney tb ms t
   unfolding atTarget
   eased-journey j =
       let found = eased-leads tb ta eases starts (j .leads) in
-      record { reached = found .0; journey = record { leads = found .1; ends = rw (found .2 .same, targets) (j .ends) }; near = found .2 }
+      record { reached = found .0; journey = record { leads = found .1; ends = rw (covers-junction _ _ (found .2), targets) (j .ends) }; over = found .2 }
 
   module _ (sound-a : SoundTrip ta) (sound-b : SoundTrip tb) where
     -- where A has an answer B has one, and it is no later than A's plan timed under B
@@ -55,5 +56,5 @@ module _ (tb ta : Trip) (eases : Eases tb ta) (starts : Slack 0 (startIn tb) (st
           answered = found .1;
           lowest = answer-lowest tb sound-b (found .1) (plan .journey);
           no-later = no-later;
-          earlier = omega (arith, no-later, plan .near .clock);
+          earlier = omega (arith, no-later, covers-clock _ _ (plan .over));
         }

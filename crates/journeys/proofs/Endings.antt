@@ -5,7 +5,7 @@ use mathlib.Core.Option.{Option, none, some}
 use Prim.Native.Nat.{ℕ, suc, _<_}
 use lib.Dec.{T}
 use lib.ListN.{length, getD}
-use Rattle.moves.specs.declared.State.{State}
+use Rattle.states.specs.declared.State.{State}
 use Rattle.moves.specs.Trip.{Trip}
 use Rattle.moves.proofs.Rising.{SoundTrip}
 use Rattle.theory.specs.States.{Covered}
@@ -13,9 +13,9 @@ use Rattle.theory.specs.Settling.{leo, Settled, Lowest}
 use Rattle.theory.specs.Labels.{parent}
 use Rattle.theory.proofs.Endings.{ends-found, ends-without, ends-full}
 use Rattle.journeys.specs.Journeys.{startIn, atTarget, succs}
-use Rattle.journeys.specs.Ranked.{sameState, covers, ranksNoHigher}
+use Rattle.states.specs.States.{sameState, covers, ranksNoHigher}
 use Rattle.journeys.specs.Labels.{answerIn, labelsIn, labelCount, parentIn}
-use Rattle.journeys.proofs.Ranked.{same-decides}
+use Rattle.states.proofs.Compared.{same-decides}
 use Rattle.journeys.proofs.Laws.{laws, goal-covers, all-reachable}
 use Rattle.journeys.proofs.Labels.{TopIn}
 

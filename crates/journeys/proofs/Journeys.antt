@@ -8,12 +8,13 @@ use Prim.Native.Nat.{ℕ, _+_}
 use native.Mathlib.Omega.{arith}
 use lib.Dec.{T}
 use Rattle.booleans.proofs.Tests.{cases, and-true, T-true, true-T}
-use Rattle.moves.specs.declared.State.{State}
+use Rattle.states.specs.declared.State.{State}
 use Rattle.moves.specs.declared.Move.{Move}
 use Rattle.moves.specs.declared.Step.{Step}
 use Rattle.moves.specs.Trip.{Trip, junctionsIn}
-use Rattle.moves.specs.Moves.{offers, offered, after, legal, judged, stepped}
-use Rattle.moves.specs.Compared.{Slack, Eases}
+use Rattle.moves.specs.Moves.{offers, offered, after, judged, stepped}
+use Rattle.states.specs.States.{legal, covers}
+use Rattle.moves.specs.Compared.{Eases}
 use Rattle.moves.proofs.Offered.{offered-in, offered-from}
 use Rattle.moves.specs.Runs.{InRange}
 use Rattle.moves.proofs.Rising.{SoundTrip, clock-after, range-after, start-range}
@@ -126,11 +127,11 @@ module _ (trip : Trip) where
       (ms, subst (λ (z : State). Leads trip s₀ ms z) (sym (one .result)) (leads-next (before .1) (one .move) (one .offered) (one .lawful)))
 
 -- where B eases A, what A's moves lead to from a, they lead to in B from a state that is no worse, with a result that is no worse
-pub eased-leads : (tb ta : Trip) → Eases tb ta → {b a t : State} {ms : List Move} → Slack 0 b a → Leads ta a ms t → (u : State) × Leads tb b ms u × Slack 0 u t
-eased-leads tb ta eases {b} near stay = (b, stay, near)
-eased-leads tb ta eases {b} {a} near (go {m = m} o l p) =
-    let eased = eased-move tb ta eases b a m near o l in
-    let rest = eased-leads tb ta eases (eased .near-after) p in
+pub eased-leads : (tb ta : Trip) → Eases tb ta → {b a t : State} {ms : List Move} → T (covers b a) → Leads ta a ms t → (u : State) × Leads tb b ms u × T (covers u t)
+eased-leads tb ta eases {b} over stay = (b, stay, over)
+eased-leads tb ta eases {b} {a} over (go {m = m} o l p) =
+    let eased = eased-move tb ta eases b a m over o l in
+    let rest = eased-leads tb ta eases (eased .over-after) p in
     (rest .0, go (eased .offered) (eased .lawful) (rest .1), rest .2)
 
 -- a legal move keeps a state in range, so all that is reachable is in range

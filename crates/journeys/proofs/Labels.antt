@@ -9,7 +9,7 @@ use lib.Dec.{T}
 use lib.ListN.{getD}
 use borrow.Author.Tests.{eq-eqb}
 use Rattle.booleans.proofs.Tests.{T-true, true-T}
-use Rattle.moves.specs.declared.State.{State}
+use Rattle.states.specs.declared.State.{State}
 use Rattle.moves.specs.declared.Move.{Move}
 use Rattle.moves.specs.Trip.{Trip}
 use Rattle.moves.proofs.Rising.{SoundTrip}
@@ -19,10 +19,10 @@ use Rattle.theory.specs.Labels.{within, IsAnswer}
 use Rattle.theory.proofs.Sorting.{le-self}
 use Rattle.theory.proofs.Dominance.{above-start, start-undominated, equal-or-dominated, undominated-parent}
 use Rattle.theory.proofs.Labels.{answer-is, answer-unique, answer-undominated, labels-exactly, labels-strict, labels-unique, labels-some, first-label, answer-label}
-use Rattle.journeys.specs.Journeys.{startIn, atTarget, Journey, Reached, succs}
-use Rattle.journeys.specs.Ranked.{sameState, covers, dominatesState, ranksNoHigher, UndominatedIn}
+use Rattle.journeys.specs.Journeys.{startIn, atTarget, Journey, Reached, succs, UndominatedIn}
+use Rattle.states.specs.States.{sameState, covers, dominatesState, ranksNoHigher}
 use Rattle.journeys.specs.Labels.{reachableIn, answerIn, labelsIn, labelCount}
-use Rattle.journeys.proofs.Ranked.{rank-order, rank-clock, same-decides}
+use Rattle.states.proofs.Compared.{rank-order, rank-clock, same-decides}
 use Rattle.journeys.proofs.Journeys.{OneMove, succs-from, leads-reach, reach-leads}
 use Rattle.journeys.proofs.Laws.{laws, goal-covers, all-reachable}
 

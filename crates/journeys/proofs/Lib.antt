@@ -1,6 +1,5 @@
 -- The laws and theorems of planning.
 -- Assumes nothing.
-pub mod Ranked
 pub mod Journeys
 pub mod Laws
 pub mod Labels

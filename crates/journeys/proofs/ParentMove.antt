@@ -1,21 +1,22 @@
 -- The parent's move: the first of the offered moves that leads there, which is the lowest by kind and then by number. Assumes nothing.
-use mathlib.Core.Path.{_≡_, refl, sym, ap, _∙_}
+use mathlib.Core.Path.{_≡_, refl, sym, ap, subst, _∙_}
 use mathlib.Core.Bool.{Bool, true, false}
 use mathlib.Core.List.{List, [], _∷_, _++_, List·Memᴰ, List·Memᴰ·append-cases, List·Memᴰ·cases-cons, List·Memᴰ·head, List·Memᴰ·tail, List·Memᴰ·not-nil}
 use mathlib.Core.Logic.{_⊎_, inl, inr, ⊎-elim}
 use mathlib.Core.Option.{some}
-use Prim.Native.Nat.{ℕ, zero, suc, _+_, _≤_, _<_}
+use Prim.Native.Nat.{ℕ, zero, suc, _+_, _-_, _≤_, _<_}
 use native.Mathlib.Omega.{arith}
 use Rattle.booleans.proofs.Tests.{cases, not-both, and-true, T-true, true-T}
-use Rattle.moves.specs.declared.State.{State}
+use Rattle.driving.specs.Hours.{firstPause, lastPause}
+use Rattle.states.specs.declared.State.{State}
 use Rattle.moves.specs.declared.Move.{Move}
-use Rattle.moves.specs.Trip.{Trip, counted, roadsIn, parkIn}
-use Rattle.moves.specs.Moves.{move, pauseMove, leaves, drives, pauses, offers, offered, after, legal}
+use Rattle.moves.specs.Trip.{Trip, counted, roadsIn}
+use Rattle.moves.specs.Moves.{move, leaves, mayPause, chosen, offers, offered, after}
+use Rattle.states.specs.States.{legal, sameState}
 use Rattle.moves.proofs.Offered.{offered-in, offered-from}
 use Rattle.journeys.specs.Journeys.{succs}
-use Rattle.journeys.specs.Ranked.{sameState}
 use Rattle.journeys.specs.Plan.{movesTo, firstTo, moveTo}
-use Rattle.journeys.proofs.Ranked.{same-decides}
+use Rattle.states.proofs.Compared.{same-decides}
 use Rattle.journeys.proofs.Journeys.{succs-from}
 
 -- m stands before n: a lower kind, or the same kind and a lower number
@@ -35,68 +36,55 @@ order-append (order-cons {m = m} {ms = ms} b p) q f =
     (λ n at. ⊎-elim (b n) (f m n (List·Memᴰ·head refl)) (List·Memᴰ·append-cases ms at))
     (order-append p q (λ x y at. f x y (List·Memᴰ·tail at)))
 
--- the drives are of kind 1, by rising number
-drives-from : (trip : Trip) (j k n : ℕ) {m : Move} → List·Memᴰ m (drives trip j (counted (λ r. r) k n)) → (m .kind ≡ 1) × (k ≤ m .number)
-unfolding drives counted
-drives-from trip j k zero at = absurd (List·Memᴰ·not-nil at)
-drives-from trip j k (suc n) {m} at =
-    ⊎-elim
-    (λ (kept : leaves trip j k ≡ true).
-    ⊎-elim
-    (λ (same : m ≡ move 1 k). (ap (λ (x : Move). x .kind) same, omega (arith, ap (λ (x : Move). x .number) same)))
-    (λ (later : List·Memᴰ m (drives trip j (counted (λ r. r) (k + 1) n))). up (drives-from trip j (k + 1) n later))
-    (List·Memᴰ·cases-cons (rw (kept, drives) at at)))
-    (λ (dropped : leaves trip j k ≡ false). up (drives-from trip j (k + 1) n (rw (dropped, drives) at at)))
-    (cases (leaves trip j k))
-  where
-    up : (m .kind ≡ 1) × (k + 1 ≤ m .number) → (m .kind ≡ 1) × (k ≤ m .number)
-    up f = (f .0, omega (arith, f .1))
+-- moves made of rising numbers stand in order, where a lower number makes a move before
+module _ (test : ℕ → Bool) (made : ℕ → Move) where
+  chosen-from : (k n : ℕ) {m : Move} → List·Memᴰ m (chosen test made (counted (λ r. r) k n)) → (r : ℕ) × (m ≡ made r) × (k ≤ r)
+  unfolding chosen counted
+  chosen-from k zero at = absurd (List·Memᴰ·not-nil at)
+  chosen-from k (suc n) {m} at =
+      ⊎-elim
+      (λ (kept : test k ≡ true).
+      ⊎-elim
+      (λ (same : m ≡ made k). (k, same, omega arith))
+      (λ (later : List·Memᴰ m (chosen test made (counted (λ r. r) (k + 1) n))). up (chosen-from (k + 1) n later))
+      (List·Memᴰ·cases-cons (rw (kept, chosen) at at)))
+      (λ (dropped : test k ≡ false). up (chosen-from (k + 1) n (rw (dropped, chosen) at at)))
+      (cases (test k))
+    where
+      up : (r : ℕ) × (m ≡ made r) × (k + 1 ≤ r) → (r : ℕ) × (m ≡ made r) × (k ≤ r)
+      up f = (f .0, f .1, omega (arith, f .2))
 
-drives-order : (trip : Trip) (j k n : ℕ) → InOrder (drives trip j (counted (λ r. r) k n))
-unfolding drives counted
-drives-order trip j k zero = order-nil
-drives-order trip j k (suc n) =
-    ⊎-elim
-    (λ (kept : leaves trip j k ≡ true).
-    rw (kept, drives)
-    (order-cons {m = move 1 k}
-    (λ m at. let f = drives-from trip j (k + 1) n at in number-below (sym (f .0)) (omega (arith, f .1)))
-    (drives-order trip j (k + 1) n)))
-    (λ (dropped : leaves trip j k ≡ false). rw (dropped, drives) (drives-order trip j (k + 1) n))
-    (cases (leaves trip j k))
-
-pauses-kind : (park : Bool) (j : ℕ) {m : Move} → List·Memᴰ m (pauses park j) → 2 ≤ m .kind
-pauses-kind false j at = absurd (List·Memᴰ·not-nil at)
-pauses-kind true j {m} at =
-    ⊎-elim
-    (λ (same : m ≡ pauseMove true j). omega (arith, ap (λ (x : Move). x .kind) same))
-    (λ (later : List·Memᴰ m (pauseMove false j ∷ [])).
-    ⊎-elim
-    (λ (same : m ≡ pauseMove false j). omega (arith, ap (λ (x : Move). x .kind) same))
-    (λ (none′ : List·Memᴰ m []). absurd (List·Memᴰ·not-nil none′))
-    (List·Memᴰ·cases-cons later))
-    (List·Memᴰ·cases-cons at)
-
-pauses-order : (park : Bool) (j : ℕ) → InOrder (pauses park j)
-pauses-order false j = order-nil
-pauses-order true j =
-    order-cons {m = pauseMove true j}
-    (λ n at.
-    ⊎-elim
-    (λ (same : n ≡ pauseMove false j). kind-below (omega (arith, ap (λ (x : Move). x .kind) same)))
-    (λ (none′ : List·Memᴰ n []). absurd (List·Memᴰ·not-nil none′))
-    (List·Memᴰ·cases-cons at))
-    (order-cons (λ n at. absurd (List·Memᴰ·not-nil at)) order-nil)
+  chosen-order : ((x y : ℕ) → x < y → Before (made x) (made y)) → (k n : ℕ) → InOrder (chosen test made (counted (λ r. r) k n))
+  unfolding chosen counted
+  chosen-order rises k zero = order-nil
+  chosen-order rises k (suc n) =
+      ⊎-elim
+      (λ (kept : test k ≡ true).
+      rw (kept, chosen)
+      (order-cons {m = made k}
+      (λ m at. let f = chosen-from (k + 1) n at in subst (Before (made k)) (sym (f .1)) (rises k (f .0) (omega (arith, f .2))))
+      (chosen-order rises (k + 1) n)))
+      (λ (dropped : test k ≡ false). rw (dropped, chosen) (chosen-order rises (k + 1) n))
+      (cases (test k))
 
 -- the offered moves stand by kind and then by number
 pub offered-order : (trip : Trip) (s : State) → InOrder (offered trip s)
 unfolding offered
 offered-order trip s =
-    order-append (drives-order trip (s .junction) 1 (roadsIn trip)) (pauses-order (parkIn trip (s .junction)) (s .junction))
+    order-append (chosen-order drives (move 1) (λ x y h. number-below refl h) 1 (roadsIn trip)) (chosen-order pauses pausing (λ x y h. kind-below h) firstPause (lastPause - 1))
     (λ m n at bt.
-    let f = drives-from trip (s .junction) 1 (roadsIn trip) at in
-    let g = pauses-kind (parkIn trip (s .junction)) (s .junction) bt in
-    kind-below (omega (arith, f .0, g)))
+    let f = chosen-from drives (move 1) 1 (roadsIn trip) at in
+    let g = chosen-from pauses pausing firstPause (lastPause - 1) bt in
+    kind-below (omega (arith, ap (λ (x : Move). x .kind) (f .1), ap (λ (x : Move). x .kind) (g .1), g .2)))
+  where
+    drives : ℕ → Bool
+    drives = leaves trip (s .junction)
+
+    pauses : ℕ → Bool
+    pauses = mayPause trip s
+
+    pausing : ℕ → Move
+    pausing kind = move kind (s .junction)
 
 module _ (trip : Trip) (p t : State) where
   -- a legal move from p to t

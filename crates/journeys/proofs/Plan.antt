@@ -9,7 +9,7 @@ use borrow.Author.Tests.{lt-ltb, le-ltb}
 use lib.Dec.{T, T-not}
 use native.Mathlib.Nat.{eq-or-lt-of-le}
 use lib.ListN.{length, getD, length-append}
-use Rattle.moves.specs.declared.State.{State}
+use Rattle.states.specs.declared.State.{State}
 use Rattle.moves.specs.declared.Move.{Move}
 use Rattle.moves.specs.Trip.{Trip}
 use Rattle.moves.proofs.Rising.{SoundTrip}
@@ -19,10 +19,10 @@ use Rattle.theory.proofs.Lists.{mem-at, at-mem}
 use Rattle.theory.proofs.Dominance.{no-way-back}
 use Rattle.theory.proofs.Parents.{parent-at, parent-none, parent-before}
 use Rattle.journeys.specs.Journeys.{startIn, Leads, stay, Journey, succs}
-use Rattle.journeys.specs.Ranked.{sameState, ranksNoHigher}
+use Rattle.states.specs.States.{sameState, ranksNoHigher}
 use Rattle.journeys.specs.Labels.{answerIn, labelsIn, labelCount, label, parentIn}
 use Rattle.journeys.specs.Plan.{moveTo, oneMove, movesBack, movesOf, planMoves, moveCount}
-use Rattle.journeys.proofs.Ranked.{rank-order, same-decides}
+use Rattle.states.proofs.Compared.{rank-order, same-decides}
 use Rattle.journeys.proofs.Journeys.{leads-next}
 use Rattle.journeys.proofs.Laws.{laws, clock-rises, all-reachable}
 use Rattle.journeys.proofs.Labels.{reached-reach, label-exactly, labels-rise, label-first, answer-ends, answer-is-label, home-answer, home-count}

@@ -18,7 +18,7 @@ use Rattle.roadmap.specs.Format.{junctionCount}
 use Rattle.mapcheck.specs.MapCheck.{mapTests, AcceptedMap}
 use Rattle.driving.specs.Order.{orderOf, orderTests}
 use Rattle.driving.proofs.Accepted.{order-accepted}
-use Rattle.moves.specs.declared.State.{State}
+use Rattle.states.specs.declared.State.{State}
 use Rattle.moves.specs.declared.Move.{Move}
 use Rattle.moves.specs.Trip.{Trip}
 use Rattle.moves.proofs.Rising.{SoundTrip, sound-trip}
@@ -26,7 +26,8 @@ use Rattle.sheets.specs.Sheet.{shortSheet}
 use Rattle.journeys.specs.Journeys.{Journey}
 use Rattle.journeys.specs.Labels.{answerIn, labelCount}
 use Rattle.journeys.specs.Plan.{planMoves, moveCount, bytesNeeded, plannedSheet}
-use Rattle.journeys.specs.Planning.{labelsThatFit, full, noRoad, searchTests, planned, tripFrom, searchReply, planReply, planSheetWhen, planSheet}
+use Rattle.journeys.specs.Planning.{full, noRoad, searchTests, planned, tripFrom, searchReply, planReply, planSheetWhen, planSheet}
+use Rattle.states.specs.LabelSpace.{labelsThatFit}
 use Rattle.journeys.proofs.Labels.{none-answered}
 use Rattle.journeys.proofs.Plan.{plan-journey, plan-short}
 

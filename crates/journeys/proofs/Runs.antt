@@ -7,16 +7,19 @@ use mathlib.Core.Option.{some}
 use Prim.Native.Nat.{ℕ, zero, suc, _-_, _≤_}
 use native.Mathlib.Omega.{arith}
 use borrow.Author.Tests.{ltb-true, ltb-false, eqb-true, eq-eqb}
-use lib.Dec.{eqb, ltb}
+use lib.Dec.{T, eqb, ltb}
 use lib.ListN.{List·getD-eq-default}
 use Rattle.booleans.proofs.Tests.{cases, not-both}
 use Rattle.replies.specs.First.{NoneFits}
 use Rattle.roadmap.specs.Format.{junctionCount, roadCount, carPark}
 use Rattle.mapcheck.specs.MapCheck.{AcceptedMap}
 use Rattle.driving.specs.Order.{orderOf, orderTests}
-use Rattle.moves.specs.declared.State.{State}
+use Rattle.theory.proofs.Figures.{above-more}
+use Rattle.states.specs.declared.State.{State}
+use Rattle.states.specs.States.{covers}
+use Rattle.states.proofs.Compared.{covers-made}
 use Rattle.moves.specs.Trip.{Stretch, tripOf, stretchOf, roadIn, parkIn, roadsIn}
-use Rattle.moves.specs.Compared.{Slack, Eases}
+use Rattle.moves.specs.Compared.{Eases}
 use Rattle.moves.proofs.Trips.{roads-in, junctions-in, road-in, park-in}
 use Rattle.journeys.specs.Journeys.{startIn}
 use Rattle.journeys.specs.Labels.{answerIn}
@@ -67,24 +70,13 @@ module _ (mapB orderB mapA orderA : List ℕ) (easier : EasierRun mapB orderB ma
             omega (arith, ap (λ (s : Stretch). s .seconds) (road-b r low high), ap (λ (s : Stretch). s .seconds) (road-a r low high), easier .map .seconds r low (within r high));
         parks = park-any;
         latest = easier .trip .latest;
-        rules =
-            record {
-              spell-limit = easier .order .spell-limit;
-              shift-limit = easier .order .shift-limit;
-              break-time = easier .order .break-time;
-              rest-time = easier .order .rest-time;
-            };
+        rules = record { limits = easier .order .limits; pauses = easier .order .pauses };
       }
 
-  pub run-starts : Slack 0 (startIn (tripFrom mapB orderB)) (startIn (tripFrom mapA orderA))
+  pub run-starts : T (covers (startIn (tripFrom mapB orderB)) (startIn (tripFrom mapA orderA)))
   unfolding tripOf
   run-starts =
-      record {
-        same = easier .trip .source;
-        clock = omega (arith, easier .trip .departure);
-        spell = omega (arith, easier .order .spell);
-        shift = omega (arith, easier .order .shift);
-      }
+      covers-made _ _ (easier .trip .source) (above-more _ _ _ _ (omega (arith, easier .trip .departure)) (easier .order .figures))
 
   pub run-targets : tripFrom mapB orderB .order .target ≡ tripFrom mapA orderA .order .target
   unfolding tripOf

@@ -9,6 +9,7 @@ use Rattle.replies.specs.Told.{succeeded}
 use Rattle.driving.specs.Order.{europeanRules}
 use Rattle.moves.specs.Trip.{Stretch, Trip}
 use Rattle.theory.specs.Lists.{every}
+use Rattle.theory.specs.Figures.{noneAbove, sameEach, lexicographic}
 use Rattle.sheets.specs.declared.Row.{Row}
 use Rattle.journeys.specs.Labels.{answerIn, labelsIn}
 use Rattle.journeys.specs.Plan.{planMoves, planRows}
@@ -42,7 +43,7 @@ tripBy roads parks source target spell =
     }
 
 works : Worked → Bool
-unfolding searchReply answerIn labelsIn planMoves planRows
+unfolding searchReply answerIn labelsIn planMoves planRows noneAbove sameEach lexicographic
 works w = sameReply (searchReply (w .trip) 100 100) (w .reply) && sameRows (planRows (w .trip)) (w .rows)
 
 abbrev cases : List Worked

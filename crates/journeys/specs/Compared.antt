@@ -2,8 +2,11 @@
 use mathlib.Core.Path.{_≡_}
 use mathlib.Core.List.{List}
 use Prim.Native.Nat.{ℕ, _≤_}
+use lib.Dec.{T}
+use Rattle.theory.specs.Figures.{noneAbove}
 use Rattle.roadmap.specs.Format.{junctionCount, roadCount, carPark, roadFrom, roadTo}
-use Rattle.driving.specs.Order.{orderWord}
+use Rattle.driving.specs.Order.{orderWord, orderOf}
+use Rattle.driving.specs.Hours.{wheelFigures, wheelLimits, pauseTimes}
 use Rattle.moves.specs.Trip.{stretchOf}
 
 -- two runs share the junctions and the roads' numbers and ends: J and R are equal, and each road number has the same from and to
@@ -27,12 +30,9 @@ pub record EasierMap (b a : List ℕ) : Type 0 where
 
 -- in B no starting figure is higher, no limit lower, and no break or rest longer
 pub record EasierOrder (b a : List ℕ) : Type 0 where
-  pub spell : orderWord b 4 ≤ orderWord a 4
-  pub shift : orderWord b 5 ≤ orderWord a 5
-  pub spell-limit : orderWord a 6 ≤ orderWord b 6
-  pub break-time : orderWord b 7 ≤ orderWord a 7
-  pub shift-limit : orderWord a 8 ≤ orderWord b 8
-  pub rest-time : orderWord b 9 ≤ orderWord a 9
+  pub figures : T (noneAbove (wheelFigures (orderOf b .figures)) (wheelFigures (orderOf a .figures)))
+  pub limits : T (noneAbove (wheelLimits (orderOf a .rules)) (wheelLimits (orderOf b .rules)))
+  pub pauses : T (noneAbove (pauseTimes (orderOf b .rules)) (pauseTimes (orderOf a .rules)))
 
 -- nothing is worse in B
 pub record EasierRun (mapB orderB mapA orderA : List ℕ) : Type 0 where

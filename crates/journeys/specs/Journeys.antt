@@ -4,11 +4,12 @@ use mathlib.Core.Bool.{Bool, true, false, _&&_}
 use mathlib.Core.List.{List, [], _∷_}
 use mathlib.Core.Option.{Option, none, some}
 use Prim.Native.Nat.{ℕ, _+_}
-use lib.Dec.{eqb}
-use Rattle.moves.specs.declared.State.{State}
+use lib.Dec.{T, eqb}
+use Rattle.states.specs.declared.State.{State}
 use Rattle.moves.specs.declared.Move.{Move}
 use Rattle.moves.specs.Trip.{Trip}
-use Rattle.moves.specs.Moves.{startOf, offers, offered, after, legal, moveSeconds}
+use Rattle.moves.specs.Moves.{offers, offered, after, moveSeconds}
+use Rattle.states.specs.States.{startOf, legal, dominatesState}
 use Rattle.theory.specs.Lists.{keep}
 
 -- a journey starts at source with words 2, 4, 5
@@ -56,3 +57,8 @@ succs trip s = results trip s (offered trip s)
 -- some list of legal moves leads from the start to s
 abbrev pub Reached : Trip → State → Type 0
 Reached trip s = (ms : List Move) × Leads trip (startIn trip) ms s
+
+-- reachable, and no reachable state dominates it
+pub record UndominatedIn (trip : Trip) (u : State) : Type 0 where
+  pub reached : Reached trip u
+  pub free : (x : State) → Reached trip x → ¬ T (dominatesState x u)

@@ -3,12 +3,12 @@ use mathlib.Core.List.{List}
 use mathlib.Core.Option.{Option}
 use Prim.Native.Nat.{ℕ, _-_}
 use lib.ListN.{length, getD}
-use Rattle.moves.specs.declared.State.{State}
+use Rattle.states.specs.declared.State.{State}
 use Rattle.moves.specs.Trip.{Trip}
 use Rattle.theory.specs.Reachable.{reachable}
 use Rattle.theory.specs.Labels.{answer, labels, parent}
 use Rattle.journeys.specs.Journeys.{startIn, atTarget, succs}
-use Rattle.journeys.specs.Ranked.{sameState, covers, ranksNoHigher}
+use Rattle.states.specs.States.{sameState, covers, ranksNoHigher}
 
 -- a move takes at least a second, so no journey has more moves than this
 abbrev pub secondsToSpend : Trip → ℕ

@@ -1,7 +1,6 @@
 -- The definition of planning.
 -- Assumes nothing.
 pub mod Journeys
-pub mod Ranked
 pub mod Labels
 pub mod Plan
 pub mod Planning

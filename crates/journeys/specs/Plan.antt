@@ -5,16 +5,16 @@ use mathlib.Core.Option.{Option, none, some}
 use Prim.Native.Nat.{ℕ, zero, suc, _+_}
 use lib.Dec.{ltb}
 use lib.ListN.{length, getD}
-use Rattle.moves.specs.declared.State.{State}
+use Rattle.states.specs.declared.State.{State}
 use Rattle.moves.specs.declared.Move.{Move}
 use Rattle.moves.specs.Trip.{Trip}
-use Rattle.moves.specs.Moves.{offered, after, legal}
+use Rattle.moves.specs.Moves.{offered, after}
+use Rattle.states.specs.States.{legal, sameState}
 use Rattle.sheets.specs.declared.Row.{Row}
 use Rattle.sheets.specs.declared.Heading.{Heading}
 use Rattle.sheets.specs.Sheet.{sheetNeeded, sheetAfter}
 use Rattle.theory.specs.Labels.{parent}
 use Rattle.journeys.specs.Journeys.{startIn, succs}
-use Rattle.journeys.specs.Ranked.{sameState}
 use Rattle.journeys.specs.Labels.{answerIn, labelsIn, labelCount}
 
 -- the move leads legally from p to t
@@ -77,7 +77,7 @@ planRows trip = rowsFrom trip (startIn trip) (planMoves trip)
 -- the header: moves M, arrival, spell, shift, N
 abbrev pub headingAt : Trip → State → Heading
 headingAt trip a =
-    record { moves = moveCount trip; arrival = a .clock; spell = a .spell; shift = a .shift; labels = labelCount trip }
+    record { moves = moveCount trip; arrival = a .clock; spell = a .figures .spell; shift = a .figures .shift; labels = labelCount trip }
 
 -- the sheet afterwards, where there is an answer: header and records, bytes after 20 + 12M stay
 abbrev pub plannedSheet : Trip → Option State → List ℕ → List ℕ

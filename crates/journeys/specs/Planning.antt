@@ -2,7 +2,7 @@
 use mathlib.Core.Bool.{Bool, true, false}
 use mathlib.Core.List.{List, [], _∷_, _++_}
 use mathlib.Core.Option.{Option, none, some}
-use Prim.Native.Nat.{ℕ, _/_, min}
+use Prim.Native.Nat.{ℕ}
 use lib.Dec.{ltb, eqb}
 use lib.ListN.{length}
 use Rattle.replies.specs.declared.Reply.{Reply}
@@ -11,15 +11,11 @@ use Rattle.replies.specs.First.{Test, _at_, placed, firstOf}
 use Rattle.roadmap.specs.Format.{junctionCount}
 use Rattle.mapcheck.specs.MapCheck.{mapTests}
 use Rattle.driving.specs.Order.{orderOf, orderTests}
-use Rattle.moves.specs.declared.State.{State}
+use Rattle.states.specs.declared.State.{State}
 use Rattle.moves.specs.Trip.{Trip, tripOf}
 use Rattle.sheets.specs.Sheet.{shortSheet}
 use Rattle.journeys.specs.Labels.{answerIn, labelCount}
 use Rattle.journeys.specs.Plan.{moveCount, plannedSheet}
-
--- the labels that fit are the smaller of 1,000,000 and the whole labels in the run; eight words make one label
-abbrev pub labelsThatFit : ℕ → ℕ
-labelsThatFit words = min 1000000 (words / 8)
 
 abbrev pub isNone : Option State → Bool
 isNone none = true

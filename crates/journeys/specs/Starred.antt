@@ -13,12 +13,13 @@ use Rattle.roadmap.specs.Format.{format, junctionCount, roadCount, nameBytes, j
 use Rattle.mapcheck.specs.MapCheck.{oversize, outside, badJunctionAt, badRoadAt, badLetterAt}
 use Rattle.mapcheck.specs.Chain.{brokenChainAt, among, chainFrom}
 use Rattle.driving.specs.Order.{firstBroken, badRules, badTrip}
-use Rattle.moves.specs.declared.State.{State}
+use Rattle.states.specs.declared.State.{State}
 use Rattle.moves.specs.Trip.{Trip, tripOf}
-use Rattle.moves.specs.Moves.{move, after, legal}
+use Rattle.moves.specs.Moves.{move, after}
+use Rattle.states.specs.States.{figuresOf, legal, sameState, covers, ranksNoHigher, dominatesState}
 use Rattle.theory.specs.Lists.{every}
+use Rattle.theory.specs.Figures.{noneAbove, sameEach, lexicographic}
 use Rattle.sheets.specs.declared.Row.{Row}
-use Rattle.journeys.specs.Ranked.{sameState, covers, dominatesState}
 use Rattle.journeys.specs.Labels.{answerIn, labelsIn}
 use Rattle.journeys.specs.Plan.{planMoves, planRows}
 use Rattle.journeys.specs.Planning.{planReply, tripFrom}
@@ -45,14 +46,15 @@ tripT = tripFrom mapT (orderT 100000)
 
 -- state (clock; spell; shift), at Lay
 abbrev pub atLay : ℕ → ℕ → ℕ → State
-atLay clock spell shift = record { junction = 2; clock = record { 0 = clock }; spell = record { 0 = spell }; shift = record { 0 = shift } }
+atLay clock spell shift =
+    record { junction = 2; clock = record { 0 = clock }; figures = record { spell = record { 0 = spell }; shift = record { 0 = shift } } }
 
 -- one case, with what it must come to
 pub data Case : Type 0 where
   -- a road of so many metres at this speed takes so many seconds
   takes : (metres speed seconds : ℕ) → Case
   -- T's answer has these figures
-  answers : (clock spell shift : ℕ) → Case
+  answers : List ℕ → Case
   -- T's rows: kind, number, clock after
   lists : List Row → Case
   -- T with this latest arrival, labels that fit and sheet length gets this reply
@@ -79,14 +81,14 @@ sameRows (a ∷ more) [] = false
 sameRows (a ∷ more) (b ∷ rest) =
     (eqb (a .kind) (b .kind) && (eqb (a .number) (b .number) && eqb (a .clock .0) (b .clock .0))) && sameRows more rest
 
-abbrev pub hasFigures : ℕ → ℕ → ℕ → Option State → Bool
-hasFigures clock spell shift none = false
-hasFigures clock spell shift (some a) = eqb (a .clock .0) clock && (eqb (a .spell .0) spell && eqb (a .shift .0) shift)
+abbrev pub hasFigures : List ℕ → Option State → Bool
+hasFigures figures none = false
+hasFigures figures (some a) = sameEach (figuresOf a) figures
 
 unfoldable pub right : Case → Bool
-unfolding planReply wordAt format junctionCount roadCount nameBytes junctionWord roadWord oversize outside lowest badJunctionAt badRoadAt brokenChainAt among chainFrom badLetterAt firstBroken badRules badTrip tripOf roadSeconds planRows planMoves labelsIn answerIn after legal sameState covers
+unfolding planReply wordAt format junctionCount roadCount nameBytes junctionWord roadWord oversize outside lowest badJunctionAt badRoadAt brokenChainAt among chainFrom badLetterAt firstBroken badRules badTrip tripOf roadSeconds planRows planMoves labelsIn answerIn after legal sameState covers ranksNoHigher noneAbove sameEach lexicographic
 right (takes metres speed seconds) = eqb (roadSeconds metres speed) seconds
-right (answers clock spell shift) = hasFigures clock spell shift (answerIn tripT)
+right (answers figures) = hasFigures figures (answerIn tripT)
 right (lists rows) = sameRows (planRows tripT) rows
 right (replies latest fit sheet reply) = sameReply (planReply mapT (orderT latest) fit sheet) reply
 right (drives spell is) = sameBool (legal (tripT .order) (after tripT (atLay 0 spell spell) (move 1 2))) is
@@ -101,7 +103,7 @@ starredCases =
     ∷ takes 1 130 1
     ∷ takes 1250 90 50
     ∷ takes 1251 90 51
-    ∷ answers 20700 7200 18000
+    ∷ answers (20700 ∷ 7200 ∷ 18000 ∷ [])
     ∷ replies 100000 4 56 (succeeded 4 20700)
     ∷ replies 100000 3 56 (refusedAt 12 3)
     ∷ replies 20700 4 56 (succeeded 4 20700)

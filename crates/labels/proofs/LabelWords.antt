@@ -9,47 +9,45 @@ use native.Mathlib.Numerals.{add-one}
 use native.Mathlib.Decide.{decLe}
 use lib.ListN.{length, getD, set, length-set, length-append, List·getD-append}
 use lib.Seq.{getD-set-same, getD-set-other, getD-at}
-use Rattle.labels.specs.declared.Label.{Label}
-use Rattle.labels.specs.LabelWords.{stride, junctionField, clockField, spellField, shiftField, parentField, cursorField, winnerField, previousField, at, field, previousOf, labelAt, settled, column, Same, SameLabels, Added, puts}
+use Rattle.states.specs.declared.State.{State}
+use Rattle.states.specs.LabelSpace.{labelWords}
+use Rattle.labels.specs.LabelWords.{stateWords, junctionField, clockField, spellField, shiftField, parentField, cursorField, winnerField, previousField, at, field, previousOf, labelAt, wordsOf, settled, column, Same, SameLabels, Added, puts}
 
 -- A word that is stored is read, and no other word of the labels changes.
-module _ (ws : List ℕ) (k f v : ℕ) (small : f < stride) where
-  pub set-same : 1 ≤ k → stride * k ≤ length ws → field (set ws (at k f) v) k f ≡ v
+module _ (ws : List ℕ) (k f v : ℕ) (small : f < labelWords) where
+  pub set-same : 1 ≤ k → labelWords * k ≤ length ws → field (set ws (at k f) v) k f ≡ v
   set-same low room = getD-set-same ws (at k f) v 0 (omega arith)
 
-  pub set-field : (g n : ℕ) → g < stride → (g ≡ f → ⊥) → Same g ws (set ws (at k f) v) n
+  pub set-field : (g n : ℕ) → g < labelWords → (g ≡ f → ⊥) → Same g ws (set ws (at k f) v) n
   set-field g n b differs m low high = getD-set-other ws (at k f) (at m g) v 0 (λ e. differs (omega arith))
 
-  pub set-label : (m g : ℕ) → 1 ≤ k → 1 ≤ m → (m ≡ k → ⊥) → g < stride → field (set ws (at k f) v) m g ≡ field ws m g
+  pub set-label : (m g : ℕ) → 1 ≤ k → 1 ≤ m → (m ≡ k → ⊥) → g < labelWords → field (set ws (at k f) v) m g ≡ field ws m g
   set-label m g low low′ differs b = getD-set-other ws (at k f) (at m g) v 0 (λ e. differs (omega arith))
 
 -- a store into a label's parent, cursor or winner leaves the labels
 pub set-labels : (ws : List ℕ) (k f v n : ℕ) → parentField ≤ f → f ≤ winnerField → SameLabels ws (set ws (at k f) v) n
 set-labels ws k f v n a b = record {
-  junctions = set-field ws k f v (omega arith) junctionField n (omega arith) (λ e. omega arith);
-  clocks = set-field ws k f v (omega arith) clockField n (omega arith) (λ e. omega arith);
-  spells = set-field ws k f v (omega arith) spellField n (omega arith) (λ e. omega arith);
-  shifts = set-field ws k f v (omega arith) shiftField n (omega arith) (λ e. omega arith);
+  states = λ g small. set-field ws k f v (omega arith) g n (omega arith) (λ e. omega arith);
   previous = set-field ws k f v (omega arith) previousField n (omega arith) (λ e. omega arith);
 }
 
-module _ (ws ws′ : List ℕ) (n : ℕ) (kept : (p : ℕ) → p < stride * n → getD ws′ p 0 ≡ getD ws p 0) where
+module _ (ws ws′ : List ℕ) (n : ℕ) (kept : (p : ℕ) → p < labelWords * n → getD ws′ p 0 ≡ getD ws p 0) where
   -- where all words of labels 1 .. n are as they were, each word of theirs is
-  pub kept-field : (f : ℕ) → f < stride → Same f ws ws′ n
+  pub kept-field : (f : ℕ) → f < labelWords → Same f ws ws′ n
   kept-field f small k low high = kept (at k f) (omega arith)
 
   pub kept-labels : SameLabels ws ws′ n
   kept-labels = record {
-    junctions = kept-field junctionField (omega arith);
-    clocks = kept-field clockField (omega arith);
-    spells = kept-field spellField (omega arith);
-    shifts = kept-field shiftField (omega arith);
+    states = λ f small. kept-field f (omega arith);
     previous = kept-field previousField (omega arith);
   }
 
 pub same-label : (ws ws′ : List ℕ) (n : ℕ) → SameLabels ws ws′ n → (k : ℕ) → 1 ≤ k → k ≤ n → labelAt ws′ k ≡ labelAt ws k
 same-label ws ws′ n same k low high =
-    rw (same .junctions k low high, same .clocks k low high, same .spells k low high, same .shifts k low high)
+    rw (word junctionField (omega arith), word clockField (omega arith), word spellField (omega arith), word shiftField (omega arith))
+  where
+    word : (f : ℕ) → f < stateWords → field ws′ k f ≡ field ws k f
+    word f small = same .states f small k low high
 
 -- The labels as a list.
 pub settled-more : (ws : List ℕ) (n : ℕ) → settled ws (n + 1) ≡ settled ws n ++ (labelAt ws (n + 1) ∷ [])
@@ -70,7 +68,7 @@ grown l a d k n e low high {b} old new = go (decLe k n)
     go (yes h) = List·getD-append l (a ∷ []) d (k - 1) (omega arith) ∙ old h
     go (no h) = getD-at l a [] d (k - 1) (omega arith) ∙ new (omega arith)
 
-pub settled-at : (ws : List ℕ) (n k : ℕ) (d : Label) → 1 ≤ k → k ≤ n → getD (settled ws n) (k - 1) d ≡ labelAt ws k
+pub settled-at : (ws : List ℕ) (n k : ℕ) (d : State) → 1 ≤ k → k ≤ n → getD (settled ws n) (k - 1) d ≡ labelAt ws k
 unfolding settled
 settled-at ws zero k d low high = absurd (omega arith)
 settled-at ws (suc n) k d low high =
@@ -80,7 +78,7 @@ pub settled-by-label : (ws ws′ : List ℕ) (n : ℕ) → ((k : ℕ) → 1 ≤ 
 unfolding settled
 settled-by-label ws ws′ zero same = refl
 settled-by-label ws ws′ (suc n) same =
-    ap₂ (λ (l : List Label) (a : Label). l ++ (a ∷ [])) (settled-by-label ws ws′ n (λ k low high. same k low (omega arith))) (same (suc n) (omega arith) (omega arith))
+    ap₂ (λ (l : List State) (a : State). l ++ (a ∷ [])) (settled-by-label ws ws′ n (λ k low high. same k low (omega arith))) (same (suc n) (omega arith) (omega arith))
 
 -- the list does not change where the labels do not
 pub settled-same : (ws ws′ : List ℕ) (n : ℕ) → SameLabels ws ws′ n → settled ws′ n ≡ settled ws n
@@ -99,13 +97,13 @@ settled-mem ws (suc n) k low high = go (decLe k n) (settled-mem ws n k low)
     go (no h) before = let e : k ≡ suc n = omega arith in Memᴰ·append-right (settled ws n) (List·Memᴰ·head (rw e))
 
 -- label a is the k-th of 1 .. n
-pub record Numbered (ws : List ℕ) (n : ℕ) (a : Label) : Type 0 where
+pub record Numbered (ws : List ℕ) (n : ℕ) (a : State) : Type 0 where
   pub k : ℕ
   pub low : 1 ≤ k
   pub high : k ≤ n
   pub is : a ≡ labelAt ws k
 
-pub mem-settled : (ws : List ℕ) (n : ℕ) (a : Label) → List·Memᴰ a (settled ws n) → Numbered ws n a
+pub mem-settled : (ws : List ℕ) (n : ℕ) (a : State) → List·Memᴰ a (settled ws n) → Numbered ws n a
 unfolding settled
 mem-settled ws zero a m = absurd (List·Memᴰ·not-nil m)
 mem-settled ws (suc n) a m =
@@ -148,25 +146,25 @@ puts-at ws i f (v ∷ vs) zero b h = rw (add-zero (i + f)) (puts-below _ i (f + 
 puts-at ws i f (v ∷ vs) (suc g) b h =
     let e : i + f + suc g ≡ i + (f + 1) + g = omega arith in rw e (puts-at _ i (f + 1) vs g (simp length-set (omega arith)) (omega arith))
 
-put-word : (ws : List ℕ) (n : ℕ) (vs : List ℕ) (f : ℕ) → stride * n + length vs ≤ length ws → f < length vs → field (puts ws (stride * n) 0 vs) (n + 1) f ≡ getD vs f 0
-put-word ws n vs f b h = let e : at (n + 1) f ≡ stride * n + 0 + f = omega arith in rw e (puts-at ws (stride * n) 0 vs f (omega arith) h)
+put-word : (ws : List ℕ) (n : ℕ) (vs : List ℕ) (f : ℕ) → labelWords * n + length vs ≤ length ws → f < length vs → field (puts ws (labelWords * n) 0 vs) (n + 1) f ≡ getD vs f 0
+put-word ws n vs f b h = let e : at (n + 1) f ≡ labelWords * n + 0 + f = omega arith in rw e (puts-at ws (labelWords * n) 0 vs f (omega arith) h)
 
 -- all words of a new label
-module _ (ws : List ℕ) (n : ℕ) (label : Label) (parent cursor previous : ℕ) (room : stride * (n + 1) ≤ length ws) where
+module _ (ws : List ℕ) (n : ℕ) (label : State) (parent cursor previous : ℕ) (room : labelWords * (n + 1) ≤ length ws) where
   abbrev words : List ℕ
-  words = label .junction ∷ label .clock ∷ label .spell ∷ label .shift ∷ parent ∷ cursor ∷ (n + 1) ∷ previous ∷ []
+  words = wordsOf label parent cursor (n + 1) previous
 
   abbrev ws′ : List ℕ
-  ws′ = puts ws (stride * n) 0 words
+  ws′ = puts ws (labelWords * n) 0 words
 
-  word : (f : ℕ) → f < stride → field ws′ (n + 1) f ≡ getD words f 0
+  word : (f : ℕ) → f < labelWords → field ws′ (n + 1) f ≡ getD words f 0
   word f small = put-word ws n words f (omega arith) (omega arith)
 
   is-label : labelAt ws′ (n + 1) ≡ label
   is-label = rw (word junctionField (omega arith), word clockField (omega arith), word spellField (omega arith), word shiftField (omega arith))
 
-  kept : (p : ℕ) → p < stride * n → getD ws′ p 0 ≡ getD ws p 0
-  kept p h = puts-below ws (stride * n) 0 words p (omega arith)
+  kept : (p : ℕ) → p < labelWords * n → getD ws′ p 0 ≡ getD ws p 0
+  kept p h = puts-below ws (labelWords * n) 0 words p (omega arith)
 
   link : field ws′ (n + 1) previousField ≡ previous
   link = word previousField (omega arith)
@@ -178,20 +176,20 @@ module _ (ws : List ℕ) (n : ℕ) (label : Label) (parent cursor previous : ℕ
     is-cursor = word cursorField (omega arith);
     wins = word winnerField (omega arith);
     kept = kept;
-    settled = settled-more ws′ n ∙ ap₂ (λ (l : List Label) (a : Label). l ++ (a ∷ [])) (settled-same ws ws′ n (kept-labels ws ws′ n kept)) is-label;
+    settled = settled-more ws′ n ∙ ap₂ (λ (l : List State) (a : State). l ++ (a ∷ [])) (settled-same ws ws′ n (kept-labels ws ws′ n kept)) is-label;
   }
 
 -- what the store of all its words says of a new label
 pub label-stored :
-    (ws ws′ : List ℕ) (n : ℕ) (label : Label) (parent cursor previous : ℕ) → stride * (n + 1) ≤ length ws
-    → ws′ ≡ puts ws (stride * n) 0 (label .junction ∷ label .clock ∷ label .spell ∷ label .shift ∷ parent ∷ cursor ∷ (n + 1) ∷ previous ∷ [])
+    (ws ws′ : List ℕ) (n : ℕ) (label : State) (parent cursor previous : ℕ) → labelWords * (n + 1) ≤ length ws
+    → ws′ ≡ puts ws (labelWords * n) 0 (wordsOf label parent cursor (n + 1) previous)
     → Added ws ws′ n label parent cursor × (previousOf ws′ (n + 1) ≡ previous)
 label-stored ws ws′ n label parent cursor previous room e =
     rw e (added ws n label parent cursor previous room, link ws n label parent cursor previous room)
 
 -- each column is longer by the new label's word
 pub column-added :
-    (f : ℕ) (ws ws′ : List ℕ) (n : ℕ) (label : Label) (parent cursor : ℕ) → f < stride → Added ws ws′ n label parent cursor
+    (f : ℕ) (ws ws′ : List ℕ) (n : ℕ) (label : State) (parent cursor : ℕ) → f < labelWords → Added ws ws′ n label parent cursor
     → column f ws′ (n + 1) ≡ column f ws n ++ (field ws′ (n + 1) f ∷ [])
 column-added f ws ws′ n label parent cursor small A =
     column-more f ws′ n ∙ ap (λ (l : List ℕ). l ++ (field ws′ (n + 1) f ∷ [])) (column-same f ws ws′ n (kept-field ws ws′ n (A .kept) f small))

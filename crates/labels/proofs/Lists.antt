@@ -1,16 +1,26 @@
 -- The lists of the labels at a junction: the walk along them, and what a new label leaves. Assumes nothing.
 use mathlib.Core.Path.{_≡_, _∙_, refl, sym, ap, subst}
+use mathlib.Core.Bool.{Bool, true, false}
 use mathlib.Core.List.{List}
 use mathlib.Core.Logic.{_⊎_, ⊎-elim, inl, inr}
 use Prim.Native.Nat.{ℕ, _+_, _*_, _≤_, _<_}
 use native.Mathlib.Omega.{arith}
 use native.Mathlib.Nat.{le-refl}
 use native.Mathlib.Decide.{decLe, ℕ-discrete}
+use lib.Dec.{T}
 use lib.ListN.{length, getD, set, length-set}
 use lib.Seq.{getD-set-same, getD-set-other}
-use Rattle.labels.specs.declared.Label.{Label}
-use Rattle.labels.specs.LabelWords.{stride, largestWord, junctionField, spellField, shiftField, field, junctionOf, previousOf, labelAt, settled, Same, SameLabels, Added}
-use Rattle.labels.specs.Lists.{Covers, SomeCovers, Last, Heads, LeastAt, Leasts, Lists, Lowered}
+use Rattle.booleans.proofs.Tests.{not-both, T-true, true-T}
+use Rattle.theory.specs.States.{Covered}
+use Rattle.theory.specs.Figures.{noneAbove}
+use Rattle.theory.proofs.Figures.{above-head, above-tail}
+use Rattle.driving.specs.Hours.{wheelFigures}
+use Rattle.states.specs.declared.State.{State}
+use Rattle.states.specs.States.{covers}
+use Rattle.states.proofs.Compared.{covers-junction, covers-figures}
+use Rattle.states.specs.LabelSpace.{labelWords}
+use Rattle.labels.specs.LabelWords.{largestWord, junctionField, spellField, shiftField, field, junctionOf, previousOf, labelAt, settled, Same, SameLabels, Added}
+use Rattle.labels.specs.Lists.{Last, Heads, LeastAt, Leasts, Lists, Lowered}
 use Rattle.labels.proofs.LabelWords.{settled-mem, mem-settled, kept-field, kept-labels}
 
 -- no label: no head, and nothing lowered
@@ -45,51 +55,62 @@ module _ (ws ws′ : List ℕ) (n : ℕ) (junctions : Same junctionField ws ws�
     reached = λ h. let t = L .reached h in (t .0, t .1, t .2, junctions (t .0) (t .1) (t .2) ∙ t .3, same (t .0) (t .1) (t .2) ∙ t .4);
   }
 
-pub lists-same : {ws ws′ hs ss fs : List ℕ} {n : ℕ} → SameLabels ws ws′ n → stride * n ≤ length ws′ → Lists ws hs ss fs n → Lists ws′ hs ss fs n
+pub lists-same : {ws ws′ hs ss fs : List ℕ} {n : ℕ} → SameLabels ws ws′ n → labelWords * n ≤ length ws′ → Lists ws hs ss fs n → Lists ws′ hs ss fs n
 lists-same {ws} {ws′} {n} S room L = record {
   room = room;
-  chain = λ k low high. rw (S .junctions k low high, S .previous k low high) (last-same ws ws′ n (S .junctions) k _ _ (omega arith) (L .chain k low high));
-  heads = λ j h. last-same ws ws′ n (S .junctions) (n + 1) j _ (le-refl _) (L .heads j h);
-  spells = λ j h. least-same ws ws′ n (S .junctions) spellField j _ (S .spells) (L .spells j h);
-  shifts = λ j h. least-same ws ws′ n (S .junctions) shiftField j _ (S .shifts) (L .shifts j h);
+  chain = λ k low high. rw (S .states junctionField (omega arith) k low high, S .previous k low high) (last-same ws ws′ n (S .states junctionField (omega arith)) k _ _ (omega arith) (L .chain k low high));
+  heads = λ j h. last-same ws ws′ n (S .states junctionField (omega arith)) (n + 1) j _ (le-refl _) (L .heads j h);
+  spells = λ j h. least-same ws ws′ n (S .states junctionField (omega arith)) spellField j _ (S .states spellField (omega arith)) (L .spells j h);
+  shifts = λ j h. least-same ws ws′ n (S .states junctionField (omega arith)) shiftField j _ (S .states shiftField (omega arith)) (L .shifts j h);
   as-many-spells = L .as-many-spells;
   as-many-shifts = L .as-many-shifts;
 }
 
 -- The walk along a junction's labels: none after k covers the label.
-pub record Past (ws : List ℕ) (n : ℕ) (label : Label) (k : ℕ) : Type 0 where
+pub record Past (ws : List ℕ) (n : ℕ) (label : State) (k : ℕ) : Type 0 where
   pub high : k ≤ n
   pub here : 1 ≤ k → label .junction ≡ junctionOf ws k
-  pub none : (m : ℕ) → k < m → m ≤ n → Covers (labelAt ws m) label → ⊥
+  pub none : (m : ℕ) → k < m → m ≤ n → T (covers (labelAt ws m) label) → ⊥
 
-pub covered-by : (ws : List ℕ) (n k : ℕ) (label : Label) → 1 ≤ k → k ≤ n → Covers (labelAt ws k) label → SomeCovers (settled ws n) label
+pub covered-by : (ws : List ℕ) (n k : ℕ) (label : State) → 1 ≤ k → k ≤ n → T (covers (labelAt ws k) label) → Covered covers (settled ws n) label
 covered-by ws n k label low high C = (labelAt ws k, settled-mem ws n k low high, C)
+
+-- what the code is told of a state that it has read
+module _ {there at-k : State} (label : State) (read : there ≡ at-k) {told : Bool} (is : told ≡ covers there label) where
+  pub told-covers : told ≡ true → T (covers at-k label)
+  told-covers yes′ = subst (λ (s : State). T (covers s label)) read (true-T (sym is ∙ yes′))
+
+  pub told-not : told ≡ false → T (covers at-k label) → ⊥
+  told-not no′ h = not-both (T-true h) (sym (ap (λ (s : State). covers s label) read) ∙ sym is ∙ no′)
 
 -- what no label of 1 .. n covers is not covered
 pub not-covered :
-    (ws : List ℕ) (n : ℕ) (label : Label) → ((k : ℕ) → 1 ≤ k → k ≤ n → Covers (labelAt ws k) label → ⊥) → SomeCovers (settled ws n) label → ⊥
+    (ws : List ℕ) (n : ℕ) (label : State) → ((k : ℕ) → 1 ≤ k → k ≤ n → T (covers (labelAt ws k) label) → ⊥) → Covered covers (settled ws n) label → ⊥
 not-covered ws n label none C =
     let N = mem-settled ws n (C .0) (C .1) in
-    none (N .k) (N .low) (N .high) (subst (λ a. Covers a label) (N .is) (C .2))
+    none (N .k) (N .low) (N .high) (subst (λ a. T (covers a label)) (N .is) (C .2))
 
-module _ {ws hs ss fs : List ℕ} {n : ℕ} (label : Label) (L : Lists ws hs ss fs n) (known : label .junction < length hs) where
-  pub least-spell-above : label .spell < getD ss (label .junction) 0 → SomeCovers (settled ws n) label → ⊥
+module _ {ws hs ss fs : List ℕ} {n : ℕ} (label : State) (L : Lists ws hs ss fs n) (known : label .junction < length hs) where
+  wheel : (k : ℕ) → T (covers (labelAt ws k) label) → T (noneAbove (wheelFigures (labelAt ws k .figures)) (wheelFigures (label .figures)))
+  wheel k C = above-tail _ _ _ _ (covers-figures (labelAt ws k) label C)
+
+  pub least-spell-above : label .figures .spell .0 < getD ss (label .junction) 0 → Covered covers (settled ws n) label → ⊥
   least-spell-above h =
-      not-covered ws n label (λ k low high C. omega (arith, C .spell, L .spells (label .junction) (omega (arith, L .as-many-spells)) .below k low high (C .here)))
+      not-covered ws n label (λ k low high C. omega (arith, above-head _ _ _ _ (wheel k C), L .spells (label .junction) (omega (arith, L .as-many-spells)) .below k low high (covers-junction _ _ C)))
 
-  pub least-shift-above : label .shift < getD fs (label .junction) 0 → SomeCovers (settled ws n) label → ⊥
+  pub least-shift-above : label .figures .shift .0 < getD fs (label .junction) 0 → Covered covers (settled ws n) label → ⊥
   least-shift-above h =
-      not-covered ws n label (λ k low high C. omega (arith, C .shift, L .shifts (label .junction) (omega (arith, L .as-many-shifts)) .below k low high (C .here)))
+      not-covered ws n label (λ k low high C. omega (arith, above-head _ _ _ _ (above-tail _ _ _ _ (wheel k C)), L .shifts (label .junction) (omega (arith, L .as-many-shifts)) .below k low high (covers-junction _ _ C)))
 
   pub walk-first : Past ws n label (getD hs (label .junction) 0)
   walk-first =
       let H = L .heads (label .junction) known in
-      record { high = omega (arith, H .below); here = λ p. sym (H .same p); none = λ m a b C. H .skip m a (omega arith) (C .here) }
+      record { high = omega (arith, H .below); here = λ p. sym (H .same p); none = λ m a b C. H .skip m a (omega arith) (covers-junction _ _ C) }
 
   pub walk-falls : (k : ℕ) → 1 ≤ k → k ≤ n → previousOf ws k < k
   walk-falls k low high = L .chain k low high .below
 
-  pub walk-step : (k : ℕ) → 1 ≤ k → Past ws n label k → (Covers (labelAt ws k) label → ⊥) → Past ws n label (previousOf ws k)
+  pub walk-step : (k : ℕ) → 1 ≤ k → Past ws n label k → (T (covers (labelAt ws k) label) → ⊥) → Past ws n label (previousOf ws k)
   walk-step k low P not-k = record {
     high = omega (arith, H .below, P .high);
     here = λ p. P .here low ∙ sym (H .same p);
@@ -99,12 +120,12 @@ module _ {ws hs ss fs : List ℕ} {n : ℕ} (label : Label) (L : Lists ws hs ss 
       H : Last ws k (junctionOf ws k) (previousOf ws k)
       H = L .chain k low (P .high)
 
-      go : (m : ℕ) → previousOf ws k < m → m ≤ n → Covers (labelAt ws m) label → Dec (m ≡ k) → Dec (m ≤ k) → ⊥
-      go m a b C (yes e) d = not-k (subst (λ x. Covers (labelAt ws x) label) e C)
-      go m a b C (no e) (yes d) = H .skip m a (omega arith) (C .here ∙ P .here low)
+      go : (m : ℕ) → previousOf ws k < m → m ≤ n → T (covers (labelAt ws m) label) → Dec (m ≡ k) → Dec (m ≤ k) → ⊥
+      go m a b C (yes e) d = not-k (subst (λ x. T (covers (labelAt ws x) label)) e C)
+      go m a b C (no e) (yes d) = H .skip m a (omega arith) (covers-junction _ _ C ∙ P .here low)
       go m a b C (no e) (no d) = P .none m (omega arith) b C
 
-pub walk-end : {ws : List ℕ} {n k : ℕ} {label : Label} → Past ws n label k → k ≤ 0 → SomeCovers (settled ws n) label → ⊥
+pub walk-end : {ws : List ℕ} {n k : ℕ} {label : State} → Past ws n label k → k ≤ 0 → Covered covers (settled ws n) label → ⊥
 walk-end {ws} {n} {label} P h = not-covered ws n label (λ m low high. P .none m (omega arith) high)
 
 -- Lowering.
@@ -124,9 +145,9 @@ upto P n f g k a b = go (decLe k n)
     go (yes h) = f k a h
     go (no h) = let e : n + 1 ≡ k = omega arith in subst P e g
 
-module _ {ws ws′ : List ℕ} {n : ℕ} {label : Label} {parent cursor : ℕ} (A : Added ws ws′ n label parent cursor) where
+module _ {ws ws′ : List ℕ} {n : ℕ} {label : State} {parent cursor : ℕ} (A : Added ws ws′ n label parent cursor) where
   at-new : junctionOf ws′ (n + 1) ≡ label .junction
-  at-new = ap (λ (a : Label). a .junction) (A .is-label)
+  at-new = ap (λ (a : State). a .junction) (A .is-label)
 
   junctions-kept : Same junctionField ws ws′ n
   junctions-kept = kept-field ws ws′ n (A .kept) junctionField (omega arith)
@@ -148,7 +169,7 @@ module _ {ws ws′ : List ℕ} {n : ℕ} {label : Label} {parent cursor : ℕ} (
           })
 
   least-added :
-      (f : ℕ) (ls ls′ : List ℕ) (v : ℕ) → f < stride → Leasts f ws ls n → field ws′ (n + 1) f ≡ v → Lowered ls ls′ (label .junction) v → length ls′ ≡ length ls
+      (f : ℕ) (ls ls′ : List ℕ) (v : ℕ) → f < labelWords → Leasts f ws ls n → field ws′ (n + 1) f ≡ v → Lowered ls ls′ (label .junction) v → length ls′ ≡ length ls
       → Leasts f ws′ ls′ (n + 1)
   least-added f ls ls′ v small L new W same j h = go (ℕ-discrete j (label .junction))
     where
@@ -180,16 +201,16 @@ module _ {ws ws′ : List ℕ} {n : ℕ} {label : Label} {parent cursor : ℕ} (
           is-one = rw e (W .one)
 
   pub lists-added :
-      {hs ss ss′ fs fs′ : List ℕ} → Lists ws hs ss fs n → label .junction < length hs → stride * (n + 1) ≤ length ws′
+      {hs ss ss′ fs fs′ : List ℕ} → Lists ws hs ss fs n → label .junction < length hs → labelWords * (n + 1) ≤ length ws′
       → previousOf ws′ (n + 1) ≡ getD hs (label .junction) 0
-      → Lowered ss ss′ (label .junction) (label .spell) → length ss′ ≡ length ss
-      → Lowered fs fs′ (label .junction) (label .shift) → length fs′ ≡ length fs → Lists ws′ (set hs (label .junction) (n + 1)) ss′ fs′ (n + 1)
+      → Lowered ss ss′ (label .junction) (label .figures .spell .0) → length ss′ ≡ length ss
+      → Lowered fs fs′ (label .junction) (label .figures .shift .0) → length fs′ ≡ length fs → Lists ws′ (set hs (label .junction) (n + 1)) ss′ fs′ (n + 1)
   lists-added {hs} {ss} {ss′} {fs} {fs′} L known room link S same-ss F same-fs = record {
     room = room;
     chain = upto (λ k. Last ws′ k (junctionOf ws′ k) (previousOf ws′ k)) n (lists-same (kept-labels ws ws′ n (A .kept)) (omega arith) L .chain) (rw (at-new, link) (last-same ws ws′ n junctions-kept (n + 1) _ _ (le-refl _) (L .heads _ known)));
     heads = heads-added hs (L .heads) known;
-    spells = least-added spellField ss ss′ (label .spell) (omega arith) (L .spells) (ap (λ (a : Label). a .spell) (A .is-label)) S same-ss;
-    shifts = least-added shiftField fs fs′ (label .shift) (omega arith) (L .shifts) (ap (λ (a : Label). a .shift) (A .is-label)) F same-fs;
+    spells = least-added spellField ss ss′ (label .figures .spell .0) (omega arith) (L .spells) (ap (λ (a : State). a .figures .spell .0) (A .is-label)) S same-ss;
+    shifts = least-added shiftField fs fs′ (label .figures .shift .0) (omega arith) (L .shifts) (ap (λ (a : State). a .figures .shift .0) (A .is-label)) F same-fs;
     as-many-spells = omega (arith, same-ss, L .as-many-spells, length-set hs (label .junction) (n + 1));
     as-many-shifts = omega (arith, same-fs, L .as-many-shifts, length-set hs (label .junction) (n + 1));
   }

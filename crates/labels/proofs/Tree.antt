@@ -7,8 +7,9 @@ use native.Mathlib.Omega.{arith}
 use native.Mathlib.Nat.{le-refl}
 use native.Mathlib.Decide.{decLe, ℕ-discrete, map-dec}
 use lib.ListN.{length, set}
-use Rattle.labels.specs.declared.Label.{Label}
-use Rattle.labels.specs.LabelWords.{stride, winnerField, at, winnerOf, Same, Added, WinnerWithin}
+use Rattle.states.specs.declared.State.{State}
+use Rattle.states.specs.LabelSpace.{labelWords}
+use Rattle.labels.specs.LabelWords.{winnerField, at, winnerOf, Same, Added, WinnerWithin}
 use Rattle.labels.specs.Tree.{ancestor, Under, Least, Right, Tree, TreeBut, Better, Stored, Mending, Entering}
 use Rattle.labels.proofs.LabelWords.{set-same, set-label, kept-field}
 
@@ -164,7 +165,7 @@ rekey-entering {key} {key′} {ws} {n} {j} same E = record {
 }
 
 -- the store of a winner
-pub stored : (ws : List ℕ) (n i v : ℕ) → 1 ≤ i → stride * i ≤ length ws → Stored ws (set ws (at i winnerField) v) n i v
+pub stored : (ws : List ℕ) (n i v : ℕ) → 1 ≤ i → labelWords * i ≤ length ws → Stored ws (set ws (at i winnerField) v) n i v
 stored ws n i v low room = record {
   now = set-same ws i winnerField v (omega arith) low room;
   others = λ k a b differs. set-label ws i winnerField v (omega arith) k winnerField low a differs (omega arith);
@@ -252,7 +253,7 @@ enter-first key ws ws′ n T now same = record {
         })
 
 pub enter-added :
-    {key : ℕ → ℕ} {ws ws′ : List ℕ} {n : ℕ} {label : Label} {parent cursor : ℕ} → Added ws ws′ n label parent cursor → Tree key ws n
+    {key : ℕ → ℕ} {ws ws′ : List ℕ} {n : ℕ} {label : State} {parent cursor : ℕ} → Added ws ws′ n label parent cursor → Tree key ws n
     → Entering key ws′ n ((n + 1) / 2)
 enter-added {key} {ws} {ws′} {n} A T = enter-first key ws ws′ n T (A .wins) (kept-field ws ws′ n (A .kept) winnerField (omega arith))
 

@@ -1,17 +1,20 @@
--- The labels in words: label k, from 1, is so many words from word stride * (k - 1) on. Assumes nothing.
+-- The labels in words: label k, from 1, is so many words from word labelWords * (k - 1) on. A label is a state, and how the search goes on
+-- from it. Assumes nothing.
 use mathlib.Core.Path.{_≡_}
 use mathlib.Core.List.{List, [], _∷_, _++_}
 use Prim.Native.Nat.{ℕ, zero, suc, _+_, _-_, _*_, _≤_, _<_}
 use lib.ListN.{getD, set}
-use Rattle.labels.specs.declared.Label.{Label}
-
-abbrev pub stride : ℕ
-stride = 8
+use Rattle.states.specs.declared.State.{State}
+use Rattle.states.specs.States.{figuresOf}
+use Rattle.states.specs.LabelSpace.{labelWords}
 
 abbrev pub largestWord : ℕ
 largestWord = 4294967295
 
--- which of a label's words is which
+-- which of a label's words is which: the state's first, its junction and its figures
+abbrev pub stateWords : ℕ
+stateWords = 4
+
 abbrev pub junctionField : ℕ
 junctionField = 0
 
@@ -42,7 +45,7 @@ previousField = 7
 
 -- where word f of label k stands
 abbrev pub at : ℕ → ℕ → ℕ
-at k f = stride * (k - 1) + f
+at k f = labelWords * (k - 1) + f
 
 abbrev pub field : List ℕ → ℕ → ℕ → ℕ
 field ws k f = getD ws (at k f) 0
@@ -65,17 +68,21 @@ winnerOf ws k = field ws k winnerField
 abbrev pub previousOf : List ℕ → ℕ → ℕ
 previousOf ws k = field ws k previousField
 
-abbrev pub labelAt : List ℕ → ℕ → Label
+-- the state of label k
+abbrev pub labelAt : List ℕ → ℕ → State
 labelAt ws k =
     record {
       junction = junctionOf ws k;
-      clock = clockOf ws k;
-      spell = field ws k spellField;
-      shift = field ws k shiftField;
+      clock = record { 0 = clockOf ws k };
+      figures = record { spell = record { 0 = field ws k spellField }; shift = record { 0 = field ws k shiftField } };
     }
 
--- labels 1 .. n, in order
-unfoldable pub settled : List ℕ → ℕ → List Label
+-- all words of a label
+abbrev pub wordsOf : State → ℕ → ℕ → ℕ → ℕ → List ℕ
+wordsOf s parent cursor winner previous = (s .junction ∷ figuresOf s) ++ (parent ∷ cursor ∷ winner ∷ previous ∷ [])
+
+-- the states of labels 1 .. n, in order
+unfoldable pub settled : List ℕ → ℕ → List State
 settled ws zero = []
 settled ws (suc n) = settled ws n ++ (labelAt ws (suc n) ∷ [])
 
@@ -90,19 +97,16 @@ Same f ws ws′ n = (k : ℕ) → 1 ≤ k → k ≤ n → field ws′ k f ≡ fi
 
 -- labels 1 .. n are as they were, but for parents, cursors and winners
 pub record SameLabels (ws ws′ : List ℕ) (n : ℕ) : Type 0 where
-  pub junctions : Same junctionField ws ws′ n
-  pub clocks : Same clockField ws ws′ n
-  pub spells : Same spellField ws ws′ n
-  pub shifts : Same shiftField ws ws′ n
+  pub states : (f : ℕ) → f < stateWords → Same f ws ws′ n
   pub previous : Same previousField ws ws′ n
 
 -- label n + 1 is new, as the winner of its own node, and each word of labels 1 .. n is as it was
-pub record Added (ws ws′ : List ℕ) (n : ℕ) (label : Label) (parent cursor : ℕ) : Type 0 where
+pub record Added (ws ws′ : List ℕ) (n : ℕ) (label : State) (parent cursor : ℕ) : Type 0 where
   pub is-label : labelAt ws′ (n + 1) ≡ label
   pub is-parent : parentOf ws′ (n + 1) ≡ parent
   pub is-cursor : cursorOf ws′ (n + 1) ≡ cursor
   pub wins : winnerOf ws′ (n + 1) ≡ n + 1
-  pub kept : (p : ℕ) → p < stride * n → getD ws′ p 0 ≡ getD ws p 0
+  pub kept : (p : ℕ) → p < labelWords * n → getD ws′ p 0 ≡ getD ws p 0
   pub settled : settled ws′ (n + 1) ≡ settled ws n ++ (label ∷ [])
 
 -- r is the winner of node k, 0 where k is past the n labels

@@ -1,24 +1,13 @@
--- The labels of a junction: the list that leads from the last of them back, and whether one of them covers another label.
--- Assumes nothing.
+-- The labels of a junction: the list that leads from the last of them back, and the least spell and shift there. Assumes nothing.
 use mathlib.Core.Path.{_≡_}
 use mathlib.Core.Bool.{Bool, true, false}
-use mathlib.Core.List.{List, List·Memᴰ}
+use mathlib.Core.List.{List}
 use mathlib.Core.Logic.{_⊎_}
 use Prim.Native.Nat.{ℕ, _+_, _*_, _≤_, _<_}
 use lib.ListN.{length, getD}
-use Rattle.labels.specs.declared.Label.{Label}
-use Rattle.labels.specs.LabelWords.{stride, largestWord, spellField, shiftField, field, junctionOf, previousOf, Added}
-
--- label a is at b's junction, and no worse
-pub record Covers (a b : Label) : Type 0 where
-  pub here : a .junction ≡ b .junction
-  pub clock : a .clock ≤ b .clock
-  pub spell : a .spell ≤ b .spell
-  pub shift : a .shift ≤ b .shift
-
--- one of the labels covers b
-abbrev pub SomeCovers : List Label → Label → Type 0
-SomeCovers labels b = (a : Label) × List·Memᴰ a labels × Covers a b
+use Rattle.states.specs.declared.State.{State}
+use Rattle.states.specs.LabelSpace.{labelWords}
+use Rattle.labels.specs.LabelWords.{largestWord, spellField, shiftField, field, junctionOf, previousOf, Added}
 
 -- the answer says whether P holds
 abbrev pub Says : Type 0 → Bool → Type 0
@@ -47,7 +36,7 @@ Leasts f ws ls n = (j : ℕ) → j < length ls → LeastAt f ws n j (getD ls j 0
 
 -- the lists of the labels 1 .. n: their links, the last label at each junction, and the least spell and shift there
 pub record Lists (ws hs ss fs : List ℕ) (n : ℕ) : Type 0 where
-  pub room : stride * n ≤ length ws
+  pub room : labelWords * n ≤ length ws
   pub chain : Chain ws n
   pub heads : Heads ws hs n
   pub spells : Leasts spellField ws ss n
@@ -56,7 +45,7 @@ pub record Lists (ws hs ss fs : List ℕ) (n : ℕ) : Type 0 where
   pub as-many-shifts : length fs ≡ length hs
 
 -- label n + 1 is new, and the lists are those of 1 .. n + 1
-pub record LabelAdded (ws ws′ hs′ ss′ fs′ : List ℕ) (n : ℕ) (label : Label) (parent cursor : ℕ) : Type 0 where
+pub record LabelAdded (ws ws′ hs′ ss′ fs′ : List ℕ) (n : ℕ) (label : State) (parent cursor : ℕ) : Type 0 where
   pub added : Added ws ws′ n label parent cursor
   pub lists : Lists ws′ hs′ ss′ fs′ (n + 1)
 

@@ -1,14 +1,18 @@
 // Settled labels in a lent run of words, and the list of the labels at each junction.
 ghost use mathlib.Core.Path.{_≡_};
-ghost use mathlib.Core.List.{[], _∷_};
 ghost use Prim.Native.Nat.{_+_, _*_, _<_, _≤_};
 ghost use lib.ListN.{length, set};
-ghost use Rattle.labels.specs.LabelWords.{stride, cursorField, winnerField, at, field, labelAt, clockOf, parentOf, cursorOf, winnerOf, previousOf, settled, puts, WinnerWithin};
-ghost use Rattle.labels.specs.Lists.{Lists, LabelAdded, Covers, SomeCovers, Says, Lowered};
+ghost use Rattle.theory.specs.States.{Covered};
+ghost use Rattle.states.specs.States.{covers};
+ghost use Rattle.states.specs.LabelSpace.{labelWords};
+ghost use Rattle.labels.specs.LabelWords.{cursorField, winnerField, at, field, labelAt, wordsOf, parentOf, cursorOf, winnerOf, previousOf, settled, puts, WinnerWithin};
+ghost use Rattle.labels.specs.Lists.{Lists, LabelAdded, Says, Lowered};
+use driving::Figures;
+use seconds::Clock;
+use seconds::Wheel;
+use states::State;
 
-// A label's eight words, in order: what it is, and how the search goes on from it.
-const STRIDE: usize = 8;
-
+// A label's words, in order: its state, and how the search goes on from it.
 const JUNCTION: usize = 0;
 
 const CLOCK: usize = 1;
@@ -25,64 +29,52 @@ const WINNER: usize = 6;
 
 const PREVIOUS: usize = 7;
 
-// Where a label is and when, and how long the driving was: plain numbers here.
-pub struct Label {
-    pub junction: u32,
-    pub clock: u32,
-    pub spell: u32,
-    pub shift: u32,
-}
-
 // Word f of label k.
 fn field(words: &[u32], k: usize, f: usize) -> u32
-    requires { ⌜ (1 ≤ k) × (stride * k ≤ length (now words)) × (f < stride) ⌝ }
+    requires { ⌜ (1 ≤ k) × (labelWords * k ≤ length (now words)) × (f < labelWords) ⌝ }
     ensures { λ r. ⌜ r ≡ field (now (words .entry)) k f ⌝ }
 {
-    words[STRIDE * (k - 1) + f]
+    words[State::LABEL_WORDS * (k - 1) + f]
 }
 
-pub fn read_label(words: &[u32], k: usize) -> Label
-    requires { ⌜ (1 ≤ k) × (stride * k ≤ length (now words)) ⌝ }
+// The state of label k.
+pub fn read_label(words: &[u32], k: usize) -> State
+    requires { ⌜ (1 ≤ k) × (labelWords * k ≤ length (now words)) ⌝ }
     ensures { λ r. ⌜ r ≡ labelAt (now (words .entry)) k ⌝ }
 {
-    Label {
+    State {
         junction: field(words, k, JUNCTION),
-        clock: field(words, k, CLOCK),
-        spell: field(words, k, SPELL),
-        shift: field(words, k, SHIFT),
+        clock: Clock(field(words, k, CLOCK)),
+        figures: Figures {
+            spell: Wheel(field(words, k, SPELL)),
+            shift: Wheel(field(words, k, SHIFT)),
+        },
     }
 }
 
-pub fn clock(words: &[u32], k: usize) -> u32
-    requires { ⌜ (1 ≤ k) × (stride * k ≤ length (now words)) ⌝ }
-    ensures { λ r. ⌜ r ≡ clockOf (now (words .entry)) k ⌝ }
-{
-    field(words, k, CLOCK)
-}
-
 pub fn parent(words: &[u32], k: usize) -> u32
-    requires { ⌜ (1 ≤ k) × (stride * k ≤ length (now words)) ⌝ }
+    requires { ⌜ (1 ≤ k) × (labelWords * k ≤ length (now words)) ⌝ }
     ensures { λ r. ⌜ r ≡ parentOf (now (words .entry)) k ⌝ }
 {
     field(words, k, PARENT)
 }
 
 pub fn cursor(words: &[u32], k: usize) -> u32
-    requires { ⌜ (1 ≤ k) × (stride * k ≤ length (now words)) ⌝ }
+    requires { ⌜ (1 ≤ k) × (labelWords * k ≤ length (now words)) ⌝ }
     ensures { λ r. ⌜ r ≡ cursorOf (now (words .entry)) k ⌝ }
 {
     field(words, k, CURSOR)
 }
 
 pub fn winner(words: &[u32], k: usize) -> u32
-    requires { ⌜ (1 ≤ k) × (stride * k ≤ length (now words)) ⌝ }
+    requires { ⌜ (1 ≤ k) × (labelWords * k ≤ length (now words)) ⌝ }
     ensures { λ r. ⌜ r ≡ winnerOf (now (words .entry)) k ⌝ }
 {
     field(words, k, WINNER)
 }
 
 pub fn previous(words: &[u32], k: usize) -> u32
-    requires { ⌜ (1 ≤ k) × (stride * k ≤ length (now words)) ⌝ }
+    requires { ⌜ (1 ≤ k) × (labelWords * k ≤ length (now words)) ⌝ }
     ensures { λ r. ⌜ r ≡ previousOf (now (words .entry)) k ⌝ }
 {
     field(words, k, PREVIOUS)
@@ -90,41 +82,24 @@ pub fn previous(words: &[u32], k: usize) -> u32
 
 // The winner of node k, 0 where k is past the n labels.
 pub fn winner_within(words: &[u32], n: usize, k: usize) -> u32
-    requires { ⌜ (1 ≤ k) × (stride * n ≤ length (now words)) ⌝ }
+    requires { ⌜ (1 ≤ k) × (labelWords * n ≤ length (now words)) ⌝ }
     ensures { λ r. ⌜ WinnerWithin (now (words .entry)) n k r ⌝ }
 {
     if k <= n { winner(words, k) } else { 0 }
 }
 
 pub fn set_cursor(words: &mut [u32], k: usize, value: u32)
-    requires { ⌜ (1 ≤ k) × (stride * k ≤ length (now words)) ⌝ }
+    requires { ⌜ (1 ≤ k) × (labelWords * k ≤ length (now words)) ⌝ }
     ensures { λ _. ⌜ now (words .exit) ≡ set (now (words .entry)) (at k cursorField) value ⌝ }
 {
-    words[STRIDE * (k - 1) + CURSOR] = value;
+    words[State::LABEL_WORDS * (k - 1) + CURSOR] = value;
 }
 
 pub fn set_winner(words: &mut [u32], k: usize, value: u32)
-    requires { ⌜ (1 ≤ k) × (stride * k ≤ length (now words)) ⌝ }
+    requires { ⌜ (1 ≤ k) × (labelWords * k ≤ length (now words)) ⌝ }
     ensures { λ _. ⌜ now (words .exit) ≡ set (now (words .entry)) (at k winnerField) value ⌝ }
 {
-    words[STRIDE * (k - 1) + WINNER] = value;
-}
-
-// Whether label k, at the junction of `label`, is no worse.
-fn no_worse(words: &[u32], k: usize, label: Label) -> bool
-    requires { ⌜ (1 ≤ k) × (stride * k ≤ length (now words)) × (label .junction ≡ labelAt (now words) k .junction) ⌝ }
-    ensures { λ r. ⌜ Says (Covers (labelAt (now (words .entry)) k) label) r ⌝ }
-{
-    if label.spell < field(words, k, SPELL) {
-        return false;
-    }
-    if label.shift < field(words, k, SHIFT) {
-        return false;
-    }
-    if label.clock < field(words, k, CLOCK) {
-        return false;
-    }
-    true
+    words[State::LABEL_WORDS * (k - 1) + WINNER] = value;
 }
 
 // Whether some label of the n covers this one: is at the same junction, and no worse. `heads` has
@@ -135,21 +110,22 @@ pub fn covered(
     spells: &[u32],
     shifts: &[u32],
     n: usize,
-    label: Label,
+    label: State,
 ) -> bool
     requires { ⌜ Lists (now words) (now heads) (now spells) (now shifts) n × (label .junction < length (now heads)) ⌝ }
-    ensures { λ r. ⌜ Says (SomeCovers (settled (now (words .entry)) n) label) r ⌝ }
+    ensures { λ r. ⌜ Says (Covered covers (settled (now (words .entry)) n) label) r ⌝ }
 {
     let j = label.junction as usize;
-    if label.spell < spells[j] {
+    if label.figures.spell.0 < spells[j] {
         return false;
     }
-    if label.shift < shifts[j] {
+    if label.figures.shift.0 < shifts[j] {
         return false;
     }
     let mut k = heads[j] as usize;
     while 0 < k {
-        if no_worse(words, k, label) {
+        let there = read_label(words, k);
+        if states::covers(there, label) {
             return true;
         }
         k = previous(words, k) as usize;
@@ -161,19 +137,19 @@ pub fn covered(
 fn store(
     words: &mut [u32],
     i: usize,
-    label: Label,
+    label: State,
     parent: u32,
     cursor: u32,
     winner: u32,
     previous: u32,
 )
-    requires { ⌜ i + stride ≤ length (now words) ⌝ }
-    ensures { λ _. ⌜ now (words .exit) ≡ puts (now (words .entry)) i 0 (label .junction ∷ label .clock ∷ label .spell ∷ label .shift ∷ parent ∷ cursor ∷ winner ∷ previous ∷ []) ⌝ }
+    requires { ⌜ i + labelWords ≤ length (now words) ⌝ }
+    ensures { λ _. ⌜ now (words .exit) ≡ puts (now (words .entry)) i 0 (wordsOf label parent cursor winner previous) ⌝ }
 {
     words[i + JUNCTION] = label.junction;
-    words[i + CLOCK] = label.clock;
-    words[i + SPELL] = label.spell;
-    words[i + SHIFT] = label.shift;
+    words[i + CLOCK] = label.clock.0;
+    words[i + SPELL] = label.figures.spell.0;
+    words[i + SHIFT] = label.figures.shift.0;
     words[i + PARENT] = parent;
     words[i + CURSOR] = cursor;
     words[i + WINNER] = winner;
@@ -197,19 +173,19 @@ pub fn add_label(
     spells: &mut [u32],
     shifts: &mut [u32],
     n: usize,
-    label: Label,
+    label: State,
     parent: u32,
     cursor: u32,
 )
     requires { ⌜ Lists (now words) (now heads) (now spells) (now shifts) n × (label .junction < length (now heads)) ⌝ }
-    requires { ⌜ (n + 1 < 4294967296) × (stride * (n + 1) ≤ length (now words)) ⌝ }
+    requires { ⌜ (n + 1 < 4294967296) × (labelWords * (n + 1) ≤ length (now words)) ⌝ }
     ensures { λ _. ⌜ LabelAdded (now (words .entry)) (now (words .exit)) (now (heads .exit)) (now (spells .exit)) (now (shifts .exit)) n label parent cursor ⌝ }
 {
     let j = label.junction as usize;
     let previous = heads[j];
     store(
         words,
-        STRIDE * n,
+        State::LABEL_WORDS * n,
         label,
         parent,
         cursor,
@@ -217,6 +193,6 @@ pub fn add_label(
         previous,
     );
     heads[j] = (n + 1) as u32;
-    lower(spells, j, label.spell);
-    lower(shifts, j, label.shift);
+    lower(spells, j, label.figures.spell.0);
+    lower(shifts, j, label.figures.shift.0);
 }

@@ -2,5 +2,5 @@
 pub mod Trips
 pub mod Stepped
 pub mod Monotone
-pub mod Rising
 pub mod Offered
+pub mod Rising

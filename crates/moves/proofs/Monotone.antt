@@ -1,138 +1,116 @@
 -- The monotonicity law: a state that is no worse stays no worse by the same move, in the same run or in an easier one.
--- Stated for two runs and with slack, since dominance, two runs compared and margins all rest on it. Assumes nothing.
-use mathlib.Core.Path.{_≡_, refl}
-use mathlib.Core.Bool.{true, false, _||_, _&&_}
+-- Stated for two runs, since dominance and two runs compared both rest on it. Assumes nothing.
+use mathlib.Core.Path.{_≡_, _∙_, sym, ap}
+use mathlib.Core.Bool.{Bool, true, false, _&&_}
+use mathlib.Core.List.{List, _∷_}
 use mathlib.Core.Logic.{⊎-elim}
-use Prim.Native.Nat.{ℕ, _+_, _≤_}
+use Prim.Native.Nat.{ℕ, _+_, _-_, _≤_}
 use native.Mathlib.Omega.{arith}
-use borrow.Author.Tests.{le-leb, leb-true, eqb-true, eq-eqb}
-use lib.Dec.{leb, eqb}
-use Rattle.booleans.proofs.Tests.{cases, not-both, and-true}
-use Rattle.driving.specs.declared.Order.{Order}
-use Rattle.driving.specs.declared.Rules.{Rules}
-use Rattle.moves.specs.declared.State.{State}
+use borrow.Author.Tests.{le-leb, leb-true, eq-eqb, eqb-true}
+use lib.Dec.{T, leb, eqb}
+use Rattle.booleans.proofs.Tests.{cases, and-true}
+use Rattle.theory.specs.Figures.{noneAbove}
+use Rattle.theory.proofs.Figures.{above-at, above-more, above-trans}
+use Rattle.theory.proofs.Changes.{Change, grows, changedEach, none-changed}
+use Rattle.driving.specs.Hours.{firstPause, lastPause, pauseTimes, pauseSeconds}
+use Rattle.driving.proofs.Hours.{driveChanges, figures-driven, pauseChanges, figures-cleared}
+use Rattle.states.specs.declared.State.{State}
+use Rattle.states.specs.States.{figuresOf, limitsOf, legal, covers}
+use Rattle.states.proofs.Compared.{covers-junction, covers-figures, covers-made, legal-within, within-legal}
 use Rattle.moves.specs.declared.Move.{Move}
-use Rattle.moves.specs.Trip.{Stretch, Trip, roadIn, roadsIn}
-use Rattle.moves.specs.Moves.{leaves, pausesAt, offers, driven, afterBreak, afterRest, after, legal}
-use Rattle.moves.specs.Compared.{Slack, Eases}
+use Rattle.moves.specs.Trip.{Trip, roadIn, roadsIn}
+use Rattle.moves.specs.Moves.{leaves, mayPause, offers, after, moveSeconds}
+use Rattle.moves.specs.Compared.{Eases}
 
--- one move of each kind; a cleared figure is 0 in both
-module _ (slack more : ℕ) (b a : State) (near : Slack slack b a) where
-  pub slack-drive : (in-b in-a : Stretch) → in-b .to ≡ in-a .to → in-b .seconds ≤ in-a .seconds + more →
-      Slack (slack + more) (driven in-b b) (driven in-a a)
-  slack-drive in-b in-a same longer =
-      record { same = same; clock = omega (arith, near); spell = omega (arith, near); shift = omega (arith, near) }
+-- what a move does to each figure: its seconds are added to clock, and by its kind it drives on or clears
+abbrev changesOf : Bool → ℕ → List Change
+changesOf true kind = grows ∷ driveChanges
+changesOf false kind = grows ∷ pauseChanges kind
 
-  pub slack-break : (in-b in-a : Rules) → in-b .«break_time» .0 ≤ in-a .«break_time» .0 + more →
-      Slack (slack + more) (afterBreak in-b b) (afterBreak in-a a)
-  slack-break in-b in-a longer =
-      record { same = near .same; clock = omega (arith, near); spell = omega arith; shift = omega (arith, near) }
-
-  pub slack-rest : (in-b in-a : Rules) → in-b .«rest_time» .0 ≤ in-a .«rest_time» .0 + more →
-      Slack (slack + more) (afterRest in-b b) (afterRest in-a a)
-  slack-rest in-b in-a longer =
-      record { same = near .same; clock = omega (arith, near); spell = omega arith; shift = omega arith }
-
--- the times of one move: B's at most A's plus more
-pub record Near (b a : Trip) (m : Move) (more : ℕ) : Type 0 where
-  pub to : m .kind ≡ 1 → roadIn b (m .number) .to ≡ roadIn a (m .number) .to
-  pub seconds : m .kind ≡ 1 → roadIn b (m .number) .seconds ≤ roadIn a (m .number) .seconds + more
-  pub break-time : b .order .rules .«break_time» .0 ≤ a .order .rules .«break_time» .0 + more
-  pub rest-time : b .order .rules .«rest_time» .0 ≤ a .order .rules .«rest_time» .0 + more
-
-pub slack-after : (slack more : ℕ) (tb ta : Trip) (b a : State) (m : Move) → Near tb ta m more → Slack slack b a →
-    Slack (slack + more) (after tb b m) (after ta a m)
-unfolding after
-slack-after slack more tb ta b a m times near =
+figures-after : (trip : Trip) (s : State) (m : Move) → figuresOf (after trip s m) ≡ changedEach (changesOf (eqb (m .kind) 1) (m .kind)) (moveSeconds trip m) (figuresOf s)
+unfolding after moveSeconds changedEach
+figures-after trip s m =
     ⊎-elim
     (λ (drive : eqb (m .kind) 1 ≡ true).
-    let is-1 : m .kind ≡ 1 = eqb-true _ _ drive in
-    rw drive (slack-drive slack more b a near (roadIn tb (m .number)) (roadIn ta (m .number)) (times .to is-1) (times .seconds is-1)))
+    rw drive (ap (λ (l : List ℕ). (s .clock .0 + roadIn trip (m .number) .seconds) ∷ l) (figures-driven _ (s .figures))))
     (λ (pause : eqb (m .kind) 1 ≡ false).
-    ⊎-elim
-    (λ (short : eqb (m .kind) 2 ≡ true). rw (pause, short) (slack-break slack more b a near (tb .order .rules) (ta .order .rules) (times .break-time)))
-    (λ (long : eqb (m .kind) 2 ≡ false). rw (pause, long) (slack-rest slack more b a near (tb .order .rules) (ta .order .rules) (times .rest-time)))
-    (cases (eqb (m .kind) 2)))
+    rw pause
+    (ap (λ (l : List ℕ). (s .clock .0 + pauseSeconds (trip .order .rules) (m .kind)) ∷ l)
+    (figures-cleared (m .kind) (pauseSeconds (trip .order .rules) (m .kind)) (s .figures))))
     (cases (eqb (m .kind) 1))
 
--- legal figures, as facts
-pub record Legal (o : Order) (s : State) : Type 0 where
-  pub spell : s .spell .0 ≤ o .rules .«spell_limit» .0
-  pub shift : s .shift .0 ≤ o .rules .«shift_limit» .0
-  pub clock : s .clock .0 ≤ o .latest .0
-
-pub legal-facts : (o : Order) (s : State) → legal o s ≡ true → Legal o s
-unfolding legal
-legal-facts o s e =
-    let first = and-true e in
-    let rest = and-true (first .1) in
-    record { spell = leb-true _ _ (first .0); shift = leb-true _ _ (rest .0); clock = leb-true _ _ (rest .1) }
-
-pub facts-legal : (o : Order) (s : State) → Legal o s → legal o s ≡ true
-unfolding legal
-facts-legal o s l = rw (le-leb _ _ (l .spell), le-leb _ _ (l .shift), le-leb _ _ (l .clock))
+-- an offered drive is of a road of the map
+pub offered-road : (trip : Trip) (s : State) (m : Move) → offers trip s m ≡ true → eqb (m .kind) 1 ≡ true → (1 ≤ m .number) × (m .number ≤ roadsIn trip)
+unfolding offers
+offered-road trip s m offered drive =
+    let leaving : leaves trip (s .junction) (m .number) ≡ true = rw drive at offered in
+    let range = and-true {a = leb 1 (m .number)} (and-true {a = leb 1 (m .number) && leb (m .number) (roadsIn trip)} leaving .0) in
+    (leb-true _ _ (range .0), leb-true _ _ (range .1))
 
 -- where B eases A, what A offers in a state B offers in one that is no worse
-module _ (tb ta : Trip) (eases : Eases tb ta) (b a : State) (m : Move) (near : Slack 0 b a) where
+module _ (tb ta : Trip) (eases : Eases tb ta) (b a : State) (m : Move) (over : T (covers b a)) where
+  same : b .junction ≡ a .junction
+  same = covers-junction b a over
+
   eased-leaves : leaves ta (a .junction) (m .number) ≡ true → leaves tb (b .junction) (m .number) ≡ true
   eased-leaves e =
       let parts = and-true {a = leb 1 (m .number) && leb (m .number) (roadsIn ta)} e in
       let range = and-true {a = leb 1 (m .number)} (parts .0) in
       let low = leb-true 1 (m .number) (range .0) in
       let high = leb-true (m .number) (roadsIn ta) (range .1) in
-      rw (le-leb _ _ low, eases .roads, le-leb _ _ high, eases .from (m .number) low high, near .same) (parts .1)
+      rw (le-leb _ _ low, eases .roads, le-leb _ _ high, eases .from (m .number) low high, same) (parts .1)
 
-  eased-pauses : pausesAt ta (a .junction) (m .number) ≡ true → pausesAt tb (b .junction) (m .number) ≡ true
-  eased-pauses e =
-      let parts = and-true {a = eqb (m .number) (a .junction)} e in
-      rw (near .same, parts .0) (eases .parks (a .junction) (parts .1))
+  eased-pause : mayPause ta a (m .kind) ≡ true → mayPause tb b (m .kind) ≡ true
+  eased-pause e =
+      let parts = and-true {a = leb firstPause (m .kind) && leb (m .kind) lastPause} e in
+      rw (parts .0, same) (eases .parks (a .junction) (parts .1))
 
-  pub eased-offers : offers ta a m ≡ true → offers tb b m ≡ true
+  eased-offers : offers ta a m ≡ true → offers tb b m ≡ true
   unfolding offers
   eased-offers e =
       ⊎-elim
       (λ (drive : eqb (m .kind) 1 ≡ true). rw drive (eased-leaves (rw drive at e)))
-      (λ (other : eqb (m .kind) 1 ≡ false).
-      ⊎-elim
-      (λ (pause : (eqb (m .kind) 2 || eqb (m .kind) 3) ≡ true). rw (other, pause) (eased-pauses (rw (other, pause) at e)))
-      (λ (none : (eqb (m .kind) 2 || eqb (m .kind) 3) ≡ false). absurd (not-both (rw (other, none) at e) refl))
-      (cases (eqb (m .kind) 2 || eqb (m .kind) 3)))
+      (λ (pause : eqb (m .kind) 1 ≡ false).
+      let here = and-true {a = eqb (m .number) (a .junction)} (rw pause at e) in
+      rw (pause, eq-eqb (m .number) (b .junction) (eqb-true (m .number) (a .junction) (here .0) ∙ sym same)) (eased-pause (here .1)))
       (cases (eqb (m .kind) 1))
 
-  -- the move that A offers: its times are near
-  near-times : offers ta a m ≡ true → Near tb ta m 0
-  unfolding offers
-  near-times e =
-      record {
-        to = λ drive. let range = road-range drive in eases .to (m .number) (range .0) (range .1);
-        seconds = λ drive. let range = road-range drive in omega (arith, eases .seconds (m .number) (range .0) (range .1));
-        break-time = omega (arith, eases .rules);
-        rest-time = omega (arith, eases .rules);
-      }
-    where
-      road-range : m .kind ≡ 1 → (1 ≤ m .number) × (m .number ≤ roadsIn ta)
-      road-range drive =
-          let offered : leaves ta (a .junction) (m .number) ≡ true = rw (eq-eqb _ _ drive) at e in
-          let range = and-true {a = leb 1 (m .number)} (and-true {a = leb 1 (m .number) && leb (m .number) (roadsIn ta)} offered .0) in
-          (leb-true _ _ (range .0), leb-true _ _ (range .1))
+  -- no move that A offers takes longer in B
+  eased-seconds : offers ta a m ≡ true → moveSeconds tb m ≤ moveSeconds ta m
+  unfolding moveSeconds
+  eased-seconds e =
+      ⊎-elim
+      (λ (drive : eqb (m .kind) 1 ≡ true). let range = offered-road ta a m e drive in rw drive (eases .seconds (m .number) (range .0) (range .1)))
+      (λ (pause : eqb (m .kind) 1 ≡ false).
+      rw pause (above-at (pauseTimes (tb .order .rules)) (pauseTimes (ta .order .rules)) (m .kind - firstPause) (eases .rules .pauses)))
+      (cases (eqb (m .kind) 1))
+
+  -- and leads to the same junction
+  eased-junction : offers ta a m ≡ true → after tb b m .junction ≡ after ta a m .junction
+  unfolding after
+  eased-junction e =
+      ⊎-elim
+      (λ (drive : eqb (m .kind) 1 ≡ true). let range = offered-road ta a m e drive in rw drive (eases .to (m .number) (range .0) (range .1)))
+      (λ (pause : eqb (m .kind) 1 ≡ false). rw pause same)
+      (cases (eqb (m .kind) 1))
 
   -- the law: a legal move of A is a legal move of B, and its result is no worse
   pub record EasedMove : Type 0 where
     pub offered : offers tb b m ≡ true
     pub lawful : legal (tb .order) (after tb b m) ≡ true
-    pub near-after : Slack 0 (after tb b m) (after ta a m)
+    pub over-after : T (covers (after tb b m) (after ta a m))
 
   pub eased-move : offers ta a m ≡ true → legal (ta .order) (after ta a m) ≡ true → EasedMove
   eased-move offered lawful =
-      let result : Slack 0 (after tb b m) (after ta a m) = slack-after 0 0 tb ta b a m (near-times offered) near in
-      let facts = legal-facts (ta .order) (after ta a m) lawful in
+      let figures : T (noneAbove (figuresOf (after tb b m)) (figuresOf (after ta a m))) =
+      rw (figures-after tb b m, figures-after ta a m)
+      (none-changed (changesOf (eqb (m .kind) 1) (m .kind)) _ _ (figuresOf b) (figuresOf a) (eased-seconds offered) (covers-figures b a over)) in
+      let limits : T (noneAbove (limitsOf (ta .order)) (limitsOf (tb .order))) =
+      above-more _ _ _ _ (omega (arith, eases .latest)) (eases .rules .limits) in
       record {
         offered = eased-offers offered;
-        lawful = facts-legal (tb .order) (after tb b m)
-            (record {
-              spell = omega (arith, result, facts, eases .rules);
-              shift = omega (arith, result, facts, eases .rules);
-              clock = omega (arith, result, facts, eases .latest);
-            });
-        near-after = result;
+        lawful =
+            within-legal (tb .order) (after tb b m)
+            (above-trans _ _ _ figures (above-trans _ _ _ (legal-within (ta .order) (after ta a m) lawful) limits));
+        over-after = covers-made (after tb b m) (after ta a m) (eased-junction offered) figures;
       }

@@ -1,18 +1,20 @@
 -- The list of offered moves holds just the moves that the test offers. Assumes nothing.
 use mathlib.Core.Path.{_≡_, _∙_, refl, sym, ap, subst}
-use mathlib.Core.Bool.{Bool, true, false, _||_, _&&_}
+use mathlib.Core.Bool.{Bool, true, false, _&&_}
 use mathlib.Core.List.{List, [], _∷_, List·Memᴰ, List·Memᴰ·append-cases, Memᴰ·append-left, Memᴰ·append-right, List·Memᴰ·cases-cons, List·Memᴰ·head, List·Memᴰ·tail, List·Memᴰ·not-nil}
 use mathlib.Core.Logic.{_⊎_, ⊎-elim}
-use Prim.Native.Nat.{ℕ, zero, suc, _+_, _≤_, _<_}
+use Prim.Native.Nat.{ℕ, zero, suc, _+_, _-_, _≤_, _<_}
 use native.Mathlib.Omega.{arith}
 use native.Mathlib.Nat.{eq-or-lt-of-le}
-use borrow.Author.Tests.{leb-true, eqb-true, eq-eqb}
+use borrow.Author.Tests.{leb-true, eqb-true, eq-eqb, ne-eqb}
 use lib.Dec.{leb, eqb}
-use Rattle.booleans.proofs.Tests.{cases, not-both, and-true}
-use Rattle.moves.specs.declared.State.{State}
+use Rattle.booleans.proofs.Tests.{cases, and-true}
+use Rattle.driving.specs.Hours.{firstPause, lastPause}
+use Rattle.states.specs.declared.State.{State}
 use Rattle.moves.specs.declared.Move.{Move}
-use Rattle.moves.specs.Trip.{Trip, counted, parkIn, roadsIn}
-use Rattle.moves.specs.Moves.{move, pauseMove, leaves, pausesAt, offers, drives, pauses, offered}
+use Rattle.moves.specs.Trip.{Trip, counted, roadsIn}
+use Rattle.moves.specs.Moves.{move, leaves, mayPause, offers, chosen, offered}
+use Rattle.moves.proofs.Monotone.{offered-road}
 
 counted-mem : (k n r : ℕ) → k ≤ r → r < k + n → List·Memᴰ r (counted (λ r. r) k n)
 unfolding counted
@@ -23,102 +25,95 @@ counted-mem k (suc n) r low high =
     (λ (later : k < r). List·Memᴰ·tail (counted-mem (k + 1) n r (omega arith) (omega arith)))
     (eq-or-lt-of-le low)
 
-drives-in : (trip : Trip) (j : ℕ) (rs : List ℕ) {r : ℕ} → List·Memᴰ r rs → leaves trip j r ≡ true → List·Memᴰ (move 1 r) (drives trip j rs)
-unfolding drives
-drives-in trip j [] at e = absurd (List·Memᴰ·not-nil at)
-drives-in trip j (x ∷ rs) {r} at e =
-    ⊎-elim
-    (λ (same : r ≡ x). rw (ap (leaves trip j) (sym same) ∙ e, drives) (List·Memᴰ·head (ap (move 1) same)))
-    (λ (later : List·Memᴰ r rs).
-    ⊎-elim
-    (λ (kept : leaves trip j x ≡ true). rw (kept, drives) (List·Memᴰ·tail (drives-in trip j rs later e)))
-    (λ (dropped : leaves trip j x ≡ false). rw (dropped, drives) (drives-in trip j rs later e))
-    (cases (leaves trip j x)))
-    (List·Memᴰ·cases-cons at)
+-- the moves chosen are those of the numbers that pass
+module _ (test : ℕ → Bool) (made : ℕ → Move) where
+  chosen-in : (ns : List ℕ) {n : ℕ} → List·Memᴰ n ns → test n ≡ true → List·Memᴰ (made n) (chosen test made ns)
+  unfolding chosen
+  chosen-in [] at e = absurd (List·Memᴰ·not-nil at)
+  chosen-in (x ∷ ns) {n} at e =
+      ⊎-elim
+      (λ (same : n ≡ x). rw (ap test (sym same) ∙ e, chosen) (List·Memᴰ·head (ap made same)))
+      (λ (later : List·Memᴰ n ns).
+      ⊎-elim
+      (λ (kept : test x ≡ true). rw (kept, chosen) (List·Memᴰ·tail (chosen-in ns later e)))
+      (λ (dropped : test x ≡ false). rw (dropped, chosen) (chosen-in ns later e))
+      (cases (test x)))
+      (List·Memᴰ·cases-cons at)
 
-drives-from : (trip : Trip) (j : ℕ) (rs : List ℕ) {m : Move} → List·Memᴰ m (drives trip j rs) → (r : ℕ) × (m ≡ move 1 r) × (leaves trip j r ≡ true)
-unfolding drives
-drives-from trip j [] at = absurd (List·Memᴰ·not-nil at)
-drives-from trip j (x ∷ rs) {m} at =
-    ⊎-elim
-    (λ (kept : leaves trip j x ≡ true).
-    ⊎-elim
-    (λ (same : m ≡ move 1 x). (x, same, kept))
-    (λ (later : List·Memᴰ m (drives trip j rs)). drives-from trip j rs later)
-    (List·Memᴰ·cases-cons (rw (kept, drives) at at)))
-    (λ (dropped : leaves trip j x ≡ false). drives-from trip j rs (rw (dropped, drives) at at))
-    (cases (leaves trip j x))
+  chosen-from : (ns : List ℕ) {m : Move} → List·Memᴰ m (chosen test made ns) → (n : ℕ) × (m ≡ made n) × (test n ≡ true)
+  unfolding chosen
+  chosen-from [] at = absurd (List·Memᴰ·not-nil at)
+  chosen-from (x ∷ ns) {m} at =
+      ⊎-elim
+      (λ (kept : test x ≡ true).
+      ⊎-elim
+      (λ (same : m ≡ made x). (x, same, kept))
+      (λ (later : List·Memᴰ m (chosen test made ns)). chosen-from ns later)
+      (List·Memᴰ·cases-cons (rw (kept, chosen) at at)))
+      (λ (dropped : test x ≡ false). chosen-from ns (rw (dropped, chosen) at at))
+      (cases (test x))
 
-pauses-in : (park : Bool) (j : ℕ) (short : Bool) → park ≡ true → List·Memᴰ (pauseMove short j) (pauses park j)
-pauses-in true j true e = List·Memᴰ·head refl
-pauses-in true j false e = List·Memᴰ·tail (List·Memᴰ·head refl)
-pauses-in false j short e = absurd (not-both e refl)
+-- a pause of a kind from the first to the last
+pub pause-range : (trip : Trip) (s : State) (kind : ℕ) → mayPause trip s kind ≡ true → (firstPause ≤ kind) × (kind ≤ lastPause)
+pause-range trip s kind e =
+    let range = and-true {a = leb firstPause kind} (and-true {a = leb firstPause kind && leb kind lastPause} e .0) in
+    (leb-true _ _ (range .0), leb-true _ _ (range .1))
 
-pauses-from : (park : Bool) (j : ℕ) {m : Move} → List·Memᴰ m (pauses park j) → (short : Bool) × (m ≡ pauseMove short j) × (park ≡ true)
-pauses-from false j at = absurd (List·Memᴰ·not-nil at)
-pauses-from true j {m} at =
-    ⊎-elim
-    (λ (same : m ≡ pauseMove true j). (true, same, refl))
-    (λ (later : List·Memᴰ m (pauseMove false j ∷ [])).
-    ⊎-elim
-    (λ (same : m ≡ pauseMove false j). (false, same, refl))
-    (λ (none : List·Memᴰ m []). absurd (List·Memᴰ·not-nil none))
-    (List·Memᴰ·cases-cons later))
-    (List·Memᴰ·cases-cons at)
+-- an offered move: a drive of a road of the junction, or a pause here of a kind that the rules offer
+pub data Offer (trip : Trip) (s : State) (m : Move) : Type 0 where
+  by-drive : m ≡ move 1 (m .number) → leaves trip (s .junction) (m .number) ≡ true → Offer trip s m
+  by-pause : m ≡ move (m .kind) (s .junction) → mayPause trip s (m .kind) ≡ true → Offer trip s m
 
--- a move by its kind
-kinds : (m : Move) → (eqb (m .kind) 2 || eqb (m .kind) 3) ≡ true → (short : Bool) × (m ≡ pauseMove short (m .number))
-kinds m e =
+pub offer : (trip : Trip) (s : State) (m : Move) → offers trip s m ≡ true → Offer trip s m
+unfolding offers
+offer trip s m e =
     ⊎-elim
-    (λ (is : eqb (m .kind) 2 ≡ true). (true, ap (λ (k : ℕ). move k (m .number)) (eqb-true _ _ is)))
-    (λ (not : eqb (m .kind) 2 ≡ false). (false, ap (λ (k : ℕ). move k (m .number)) (eqb-true _ _ (rw not at e))))
-    (cases (eqb (m .kind) 2))
+    (λ (drive : eqb (m .kind) 1 ≡ true). by-drive (ap (λ (k : ℕ). move k (m .number)) (eqb-true _ _ drive)) (rw drive at e))
+    (λ (pause : eqb (m .kind) 1 ≡ false).
+    let here = and-true {a = eqb (m .number) (s .junction)} (rw pause at e) in
+    by-pause (ap (move (m .kind)) (eqb-true _ _ (here .0))) (here .1))
+    (cases (eqb (m .kind) 1))
 
 module _ (trip : Trip) (s : State) where
-  abbrev here-drives : List Move
-  here-drives = drives trip (s .junction) (counted (λ r. r) 1 (roadsIn trip))
-
-  abbrev here-pauses : List Move
-  here-pauses = pauses (parkIn trip (s .junction)) (s .junction)
-
-  pub offered-in : (m : Move) → offers trip s m ≡ true → List·Memᴰ m (offered trip s)
-  unfolding offers offered
-  offered-in m e =
-      ⊎-elim
-      (λ (drive : eqb (m .kind) 1 ≡ true).
-      let leaving : leaves trip (s .junction) (m .number) ≡ true = rw drive at e in
-      let range = and-true {a = leb 1 (m .number)} (and-true {a = leb 1 (m .number) && leb (m .number) (roadsIn trip)} leaving .0) in
-      let is : m ≡ move 1 (m .number) = ap (λ (k : ℕ). move k (m .number)) (eqb-true _ _ drive) in
-      Memᴰ·append-left here-pauses (subst (λ (x : Move). List·Memᴰ x here-drives) (sym is) (drives-in trip (s .junction) _ (counted-mem 1 (roadsIn trip) (m .number) (leb-true _ _ (range .0)) (omega (arith, leb-true (m .number) (roadsIn trip) (range .1)))) leaving)))
-      (λ (other : eqb (m .kind) 1 ≡ false).
-      ⊎-elim
-      (λ (pause : (eqb (m .kind) 2 || eqb (m .kind) 3) ≡ true).
-      let here : pausesAt trip (s .junction) (m .number) ≡ true = rw (other, pause) at e in
-      let parts = and-true {a = eqb (m .number) (s .junction)} here in
-      let kind = kinds m pause in
-      let is : m ≡ pauseMove (kind .0) (s .junction) = kind .1 ∙ ap (pauseMove (kind .0)) (eqb-true _ _ (parts .0)) in
-      Memᴰ·append-right here-drives (subst (λ (x : Move). List·Memᴰ x here-pauses) (sym is) (pauses-in (parkIn trip (s .junction)) (s .junction) (kind .0) (parts .1))))
-      (λ (none : (eqb (m .kind) 2 || eqb (m .kind) 3) ≡ false). absurd (not-both (rw (other, none) at e) refl))
-      (cases (eqb (m .kind) 2 || eqb (m .kind) 3)))
-      (cases (eqb (m .kind) 1))
-
-  offers-drive : (r : ℕ) → leaves trip (s .junction) r ≡ true → offers trip s (move 1 r) ≡ true
+  pub offers-drive : (r : ℕ) → leaves trip (s .junction) r ≡ true → offers trip s (move 1 r) ≡ true
   unfolding offers
   offers-drive r e = e
 
-  offers-pause : (short : Bool) → parkIn trip (s .junction) ≡ true → offers trip s (pauseMove short (s .junction)) ≡ true
+  pub offers-pause : (kind : ℕ) → mayPause trip s kind ≡ true → offers trip s (move kind (s .junction)) ≡ true
   unfolding offers
-  offers-pause true e = rw (eq-eqb (s .junction) (s .junction) refl) e
-  offers-pause false e = rw (eq-eqb (s .junction) (s .junction) refl) e
+  offers-pause kind e =
+      rw (ne-eqb kind 1 (λ is. omega (arith, pause-range trip s kind e)), eq-eqb (s .junction) (s .junction) refl) e
+
+  abbrev here-drives : List Move
+  here-drives = chosen (leaves trip (s .junction)) (move 1) (counted (λ r. r) 1 (roadsIn trip))
+
+  abbrev here-pauses : List Move
+  here-pauses = chosen (mayPause trip s) (λ kind. move kind (s .junction)) (counted (λ k. k) firstPause (lastPause - 1))
+
+  pub offered-in : (m : Move) → offers trip s m ≡ true → List·Memᴰ m (offered trip s)
+  unfolding offered
+  offered-in m e = by (offer trip s m e)
+    where
+      by : Offer trip s m → List·Memᴰ m (offered trip s)
+      by (by-drive is leaving) =
+          let range = offered-road trip s m e (eq-eqb _ _ (ap (λ (n : Move). n .kind) is)) in
+          Memᴰ·append-left here-pauses
+          (subst (λ (x : Move). List·Memᴰ x here-drives) (sym is)
+          (chosen-in _ _ _ (counted-mem 1 (roadsIn trip) (m .number) (range .0) (omega (arith, range .1))) leaving))
+      by (by-pause is may) =
+          let range = pause-range trip s (m .kind) may in
+          Memᴰ·append-right here-drives
+          (subst (λ (x : Move). List·Memᴰ x here-pauses) (sym is)
+          (chosen-in (mayPause trip s) (λ kind. move kind (s .junction)) _ (counted-mem firstPause (lastPause - 1) (m .kind) (range .0) (omega (arith, range .1))) may))
 
   pub offered-from : (m : Move) → List·Memᴰ m (offered trip s) → offers trip s m ≡ true
   unfolding offered
   offered-from m at =
       ⊎-elim
       (λ drive.
-      let found = drives-from trip (s .junction) (counted (λ r. r) 1 (roadsIn trip)) drive in
+      let found = chosen-from _ _ (counted (λ r. r) 1 (roadsIn trip)) drive in
       rw (found .1) (offers-drive (found .0) (found .2)))
       (λ pause.
-      let found = pauses-from (parkIn trip (s .junction)) (s .junction) pause in
+      let found = chosen-from (mayPause trip s) (λ kind. move kind (s .junction)) (counted (λ k. k) firstPause (lastPause - 1)) pause in
       rw (found .1) (offers-pause (found .0) (found .2)))
       (List·Memᴰ·append-cases here-drives at)

@@ -1,27 +1,33 @@
 -- Every move raises the clock by its own time, at least 1, and a legal one keeps the state in range. Assumes nothing.
 use mathlib.Core.Path.{_≡_}
-use mathlib.Core.Bool.{true, false, _&&_}
+use mathlib.Core.Bool.{true, false}
 use mathlib.Core.List.{List}
 use mathlib.Core.Logic.{⊎-elim}
 use Prim.Native.Nat.{ℕ, _+_, _≤_}
 use native.Mathlib.Omega.{arith}
-use borrow.Author.Tests.{leb-true}
-use lib.Dec.{leb, eqb}
+use lib.Dec.{T, eqb}
 use Rattle.booleans.proofs.Tests.{cases, and-true}
+use Rattle.theory.specs.Figures.{noneAbove}
+use Rattle.theory.proofs.Figures.{above-tail, above-more, above-trans}
 use Rattle.roadmap.specs.Format.{junctionCount, roadCount}
 use Rattle.roadmap.proofs.RoadTime.{at-least-1}
 use Rattle.mapcheck.specs.MapCheck.{AcceptedMap}
 use Rattle.mapcheck.proofs.Sound.{sound-map}
 use Rattle.driving.specs.declared.Order.{Order}
 use Rattle.driving.specs.Accepted.{AcceptedOrder}
-use Rattle.moves.specs.declared.State.{State}
+use Rattle.driving.specs.Hours.{wheelFigures, highestLimits}
+use Rattle.driving.proofs.Hours.{figures-within, limits-within, pause-takes}
+use Rattle.states.specs.declared.State.{State}
+use Rattle.states.specs.States.{startOf, legal}
+use Rattle.states.proofs.Compared.{legal-within, within-legal, legal-clock}
 use Rattle.moves.specs.declared.Move.{Move}
 use Rattle.moves.specs.declared.Run.{Run}
 use Rattle.moves.specs.Trip.{Trip, tripOf, roadIn, roadsIn, junctionsIn}
-use Rattle.moves.specs.Moves.{startOf, leaves, offers, after, legal, moveSeconds}
+use Rattle.moves.specs.Moves.{offers, after, moveSeconds}
 use Rattle.moves.specs.Runs.{Accepted, InRange, tripIn}
 use Rattle.moves.proofs.Trips.{roads-in, junctions-in, order-in, road-in}
-use Rattle.moves.proofs.Monotone.{legal-facts}
+use Rattle.moves.proofs.Monotone.{offered-road}
+use Rattle.moves.proofs.Offered.{pause-range}
 
 -- what is sound of a run's record: its roads lead to its junctions and take time, and so do its pauses
 pub record SoundTrip (trip : Trip) : Type 0 where
@@ -54,35 +60,19 @@ run-sound map run accepted = sound-trip map (run .order) (accepted .mapped) (acc
 pub clock-after : (trip : Trip) (s : State) (m : Move) → after trip s m .clock .0 ≡ s .clock .0 + moveSeconds trip m
 unfolding after moveSeconds
 clock-after trip s m =
-    ⊎-elim
-    (λ (drive : eqb (m .kind) 1 ≡ true). rw drive)
-    (λ (pause : eqb (m .kind) 1 ≡ false).
-    ⊎-elim
-    (λ (short : eqb (m .kind) 2 ≡ true). rw (pause, short))
-    (λ (long : eqb (m .kind) 2 ≡ false). rw (pause, long))
-    (cases (eqb (m .kind) 2)))
-    (cases (eqb (m .kind) 1))
+    ⊎-elim (λ (drive : eqb (m .kind) 1 ≡ true). rw drive) (λ (pause : eqb (m .kind) 1 ≡ false). rw pause) (cases (eqb (m .kind) 1))
 
 module _ (trip : Trip) (sound : SoundTrip trip) (s : State) (m : Move) (offered : offers trip s m ≡ true) where
-  -- an offered drive is of a road of the map
-  road-range : eqb (m .kind) 1 ≡ true → (1 ≤ m .number) × (m .number ≤ roadsIn trip)
-  unfolding offers
-  road-range drive =
-      let leaving : leaves trip (s .junction) (m .number) ≡ true = rw drive at offered in
-      let range = and-true {a = leb 1 (m .number)} (and-true {a = leb 1 (m .number) && leb (m .number) (roadsIn trip)} leaving .0) in
-      (leb-true _ _ (range .0), leb-true _ _ (range .1))
-
   pub takes-time : 1 ≤ moveSeconds trip m
-  unfolding moveSeconds
+  unfolding offers moveSeconds
   takes-time =
       ⊎-elim
       (λ (drive : eqb (m .kind) 1 ≡ true).
-      let range = road-range drive in rw drive (sound .seconds (m .number) (range .0) (range .1)))
+      let range = offered-road trip s m offered drive in rw drive (sound .seconds (m .number) (range .0) (range .1)))
       (λ (pause : eqb (m .kind) 1 ≡ false).
-      ⊎-elim
-      (λ (short : eqb (m .kind) 2 ≡ true). rw (pause, short) (sound .ordered .sound-rules .break-low))
-      (λ (long : eqb (m .kind) 2 ≡ false). rw (pause, long) (omega (arith, sound .ordered .sound-rules)))
-      (cases (eqb (m .kind) 2)))
+      let may = and-true {a = eqb (m .number) (s .junction)} (rw pause at offered) .1 in
+      let range = pause-range trip s (m .kind) may in
+      rw pause (pause-takes (trip .order .rules) (sound .ordered .sound-rules) (m .kind) (range .0) (range .1)))
       (cases (eqb (m .kind) 1))
 
   -- every move raises the clock by at least 1
@@ -94,13 +84,9 @@ module _ (trip : Trip) (sound : SoundTrip trip) (s : State) (m : Move) (offered 
   junction-after low high =
       ⊎-elim
       (λ (drive : eqb (m .kind) 1 ≡ true).
-      let range = road-range drive in
+      let range = offered-road trip s m offered drive in
       rw drive (sound .to-low (m .number) (range .0) (range .1), sound .to-high (m .number) (range .0) (range .1)))
-      (λ (pause : eqb (m .kind) 1 ≡ false).
-      ⊎-elim
-      (λ (short : eqb (m .kind) 2 ≡ true). rw (pause, short) (low, high))
-      (λ (long : eqb (m .kind) 2 ≡ false). rw (pause, long) (low, high))
-      (cases (eqb (m .kind) 2)))
+      (λ (pause : eqb (m .kind) 1 ≡ false). rw pause (low, high))
       (cases (eqb (m .kind) 1))
 
   -- and a legal one leads to a state in range
@@ -108,15 +94,23 @@ module _ (trip : Trip) (sound : SoundTrip trip) (s : State) (m : Move) (offered 
       InRange (junctionsIn trip) (trip .order) (after trip s m)
   range-after range lawful =
       let junction = junction-after (range .low) (range .high) in
-      let facts = legal-facts (trip .order) (after trip s m) lawful in
-      record { low = junction .0; high = junction .1; clock = facts .clock; spell = facts .spell; shift = facts .shift }
+      record { low = junction .0; high = junction .1; lawful = lawful }
 
 pub start-range : (junctions : ℕ) (o : Order) → AcceptedOrder junctions o → InRange junctions o (startOf o)
 start-range junctions o ordered =
     record {
       low = ordered .source-low;
       high = ordered .source-high;
-      clock = ordered .times-rise;
-      spell = ordered .sound-figures .spell-high;
-      shift = ordered .sound-figures .shift-high;
+      lawful =
+          within-legal o (startOf o)
+          (above-more _ _ _ _ (ordered .times-rise) (figures-within (o .figures) (o .rules) (ordered .sound-figures)));
     }
+
+-- a state in range of an accepted order has figures that one road time can be added to
+module _ (junctions : ℕ) (o : Order) (ordered : AcceptedOrder junctions o) (s : State) (range : InRange junctions o s) where
+  pub clock-high : s .clock .0 ≤ 2000000000
+  clock-high = omega (arith, legal-clock o s (range .lawful), ordered .latest-high)
+
+  pub figures-high : T (noneAbove (wheelFigures (s .figures)) highestLimits)
+  figures-high =
+      above-trans _ _ _ (above-tail _ _ _ _ (legal-within o s (range .lawful))) (limits-within (o .rules) (ordered .sound-rules))

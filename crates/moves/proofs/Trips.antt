@@ -6,13 +6,12 @@ use Prim.Native.Nat.{ℕ, zero, suc, _+_, _-_, _≤_, _<_}
 use native.Mathlib.Omega.{arith}
 use native.Mathlib.Nat.{add-zero}
 use borrow.Author.Tests.{le-leb, lt-leb}
-use lib.Dec.{eqb, leb}
+use lib.Dec.{eqb}
 use lib.ListN.{length, getD}
 use Rattle.roadmap.specs.Format.{junctionCount, roadCount, carPark, roadFrom}
 use Rattle.driving.specs.declared.Order.{Order}
 use Rattle.moves.specs.Trip.{stretchOf, counted, tripOf, noStretch, roadIn, parkIn, roadsIn, junctionsIn}
-use Rattle.moves.specs.declared.State.{State}
-use Rattle.moves.specs.Moves.{leaves, legal}
+use Rattle.moves.specs.Moves.{leaves}
 
 pub counted-length : {A : Type 0} (f : ℕ → A) (k n : ℕ) → length (counted f k n) ≡ n
 unfolding counted
@@ -68,9 +67,3 @@ module _ (map : List ℕ) (order : Order) where
 
   pub leaves-road : (j r : ℕ) → 1 ≤ r → r ≤ roadCount map → leaves (tripOf map order) j r ≡ eqb (roadFrom map r) j
   leaves-road j r low high = rw (le-leb _ _ low, roads-in, le-leb _ _ high, road-in r low high)
-
--- with the wheel figures within their limits the clock decides
-pub legal-by-clock : (o : Order) (s : State) → s .spell .0 ≤ o .rules .«spell_limit» .0 → s .shift .0 ≤ o .rules .«shift_limit» .0 →
-    leb (s .clock .0) (o .latest .0) ≡ legal o s
-unfolding legal
-legal-by-clock o s spell shift = rw (le-leb _ _ spell, le-leb _ _ shift)

@@ -1,24 +1,17 @@
--- Two runs compared: where nothing is worse in B, and where one state is no worse than another. Assumes nothing.
+-- Two runs compared: where nothing is worse in B. Assumes nothing.
 use mathlib.Core.Path.{_≡_}
 use mathlib.Core.Bool.{true}
-use Prim.Native.Nat.{ℕ, _+_, _≤_}
+use Prim.Native.Nat.{ℕ, _≤_}
+use lib.Dec.{T}
+use Rattle.theory.specs.Figures.{noneAbove}
 use Rattle.driving.specs.declared.Rules.{Rules}
-use Rattle.moves.specs.declared.State.{State}
+use Rattle.driving.specs.Hours.{wheelLimits, pauseTimes}
 use Rattle.moves.specs.Trip.{Trip, roadIn, parkIn, roadsIn, junctionsIn}
 
--- b is at a's junction, with clock, spell and shift each at most a's plus the slack
-pub record Slack (slack : ℕ) (b a : State) : Type 0 where
-  pub same : b .junction ≡ a .junction
-  pub clock : b .clock .0 ≤ a .clock .0 + slack
-  pub spell : b .spell .0 ≤ a .spell .0 + slack
-  pub shift : b .shift .0 ≤ a .shift .0 + slack
-
--- no limit is lower in B, no break or rest is longer
+-- no limit is lower in B, no pause is longer
 pub record EasesRules (b a : Rules) : Type 0 where
-  pub spell-limit : a .«spell_limit» .0 ≤ b .«spell_limit» .0
-  pub shift-limit : a .«shift_limit» .0 ≤ b .«shift_limit» .0
-  pub break-time : b .«break_time» .0 ≤ a .«break_time» .0
-  pub rest-time : b .«rest_time» .0 ≤ a .«rest_time» .0
+  pub limits : T (noneAbove (wheelLimits a) (wheelLimits b))
+  pub pauses : T (noneAbove (pauseTimes b) (pauseTimes a))
 
 -- the junctions, the numbers and ends of the roads and latest are shared; no road takes longer in B, and each car park of A is one
 pub record Eases (b a : Trip) : Type 0 where

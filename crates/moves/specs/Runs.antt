@@ -1,4 +1,6 @@
 -- What the code knows of a run: the map and the order are accepted, and a state's figures are in range. Assumes nothing.
+use mathlib.Core.Path.{_≡_}
+use mathlib.Core.Bool.{true}
 use mathlib.Core.List.{List}
 use Prim.Native.Nat.{ℕ, _≤_}
 use Rattle.roadmap.specs.Format.{HasSizes, junctionCount}
@@ -6,7 +8,8 @@ use Rattle.mapcheck.specs.MapCheck.{AcceptedMap}
 use Rattle.driving.specs.declared.Order.{Order}
 use Rattle.driving.specs.Accepted.{AcceptedOrder}
 use Rattle.moves.specs.declared.Run.{Run}
-use Rattle.moves.specs.declared.State.{State}
+use Rattle.states.specs.declared.State.{State}
+use Rattle.states.specs.States.{legal}
 use Rattle.moves.specs.Trip.{Trip, tripOf}
 
 pub record Accepted (map : List ℕ) (run : Run) : Type 0 where
@@ -21,6 +24,4 @@ tripIn map run = tripOf map (run .order)
 pub record InRange (junctions : ℕ) (o : Order) (s : State) : Type 0 where
   pub low : 1 ≤ s .junction
   pub high : s .junction ≤ junctions
-  pub clock : s .clock .0 ≤ o .latest .0
-  pub spell : s .spell .0 ≤ o .rules .«spell_limit» .0
-  pub shift : s .shift .0 ≤ o .rules .«shift_limit» .0
+  pub lawful : legal o s ≡ true

@@ -1,18 +1,22 @@
-// States and moves: the drive, the break and the rest, over a map's bytes.
+// Moves: the drive and the pauses, over a map's bytes.
 ghost use mathlib.Core.Path.{_≡_};
 ghost use mathlib.Core.Bool.{true};
 ghost use Prim.Native.Nat.{_≤_};
 ghost use Rattle.roadmap.specs.Format.{junctionCount, roadCount};
-ghost use Rattle.moves.specs.Trip.{stretchOf, parkIn};
-ghost use Rattle.moves.specs.Moves.{startOf, move, pauseMove, driven, afterBreak, afterRest, legal, judged, stepped, leaves, pausesAt};
+ghost use Rattle.driving.specs.Accepted.{SoundRules};
+ghost use Rattle.driving.specs.Hours.{firstPause, lastPause};
+ghost use Rattle.states.specs.States.{legal};
+ghost use Rattle.moves.specs.Trip.{stretchOf};
+ghost use Rattle.moves.specs.Moves.{move, driven, paused, judged, stepped, leaves, mayPause};
 ghost use Rattle.moves.specs.Runs.{Accepted, InRange, tripIn};
 ghost use Rattle.moves.specs.Opened.{OpenedSays};
 use driving::Order;
+use driving::Rules;
 use replies::Check;
 use replies::Refusal;
 use roadmap::Sizes;
 use seconds::Clock;
-use seconds::Wheel;
+use states::State;
 
 // What a run is about, beside the map's bytes: decoded once, handed down every call.
 pub struct Run {
@@ -20,14 +24,7 @@ pub struct Run {
     pub order: Order,
 }
 
-pub struct State {
-    pub junction: u32,
-    pub clock: Clock,
-    pub spell: Wheel,
-    pub shift: Wheel,
-}
-
-// Kind 1 is a drive of a road, 2 a break and 3 a rest at a junction.
+// Kind 1 is a drive of a road, the others are pauses at a junction.
 pub struct Move {
     pub kind: u32,
     pub number: u32,
@@ -35,10 +32,6 @@ pub struct Move {
 
 impl Move {
     pub const DRIVE: u32 = 1;
-
-    pub const BREAK: u32 = 2;
-
-    pub const REST: u32 = 3;
 }
 
 // What a move comes to: it is not offered, its result is not legal, or it leads to a state.
@@ -46,20 +39,6 @@ pub enum Step {
     Foreign,
     Overrun,
     Moved(State),
-}
-
-pub fn start_of(order: Order) -> State
-    ensures { λ r. ⌜ r ≡ startOf order ⌝ }
-{
-    let clock = order.departure;
-    let spell = order.figures.spell;
-    let shift = order.figures.shift;
-    State {
-        junction: order.source,
-        clock,
-        spell,
-        shift,
-    }
 }
 
 // The seconds that road r takes.
@@ -84,52 +63,27 @@ pub fn after_drive(map: &[u8], run: Run, state: State, r: u32) -> State
     let sizes = run.sizes;
     let to = roadmap::road_to(map, sizes, r);
     let time = seconds_of(map, run, r);
+    let figures = driving::driven(state.figures, time);
     State {
         junction: to,
         clock: Clock(state.clock.0 + time),
-        spell: Wheel(state.spell.0 + time),
-        shift: Wheel(state.shift.0 + time),
+        figures,
     }
 }
 
-// The state after a break.
-pub fn after_break(run: Run, state: State) -> State
-    requires { ⌜ (state .clock .0 ≤ 2000000000) × (run .order .rules .«break_time» .0 ≤ 1000000) ⌝ }
-    ensures { λ s. ⌜ s ≡ afterBreak (run .order .rules) state ⌝ }
+// The state after a pause of this kind.
+pub fn after_pause(run: Run, state: State, kind: u32) -> State
+    requires { ⌜ SoundRules (run .order .rules) × (state .clock .0 ≤ 2000000000) ⌝ }
+    requires { ⌜ (firstPause ≤ kind) × (kind ≤ lastPause) ⌝ }
+    ensures { λ s. ⌜ s ≡ paused kind (run .order .rules) state ⌝ }
 {
-    let shift = state.shift;
+    let time = driving::pause_time(run.order.rules, kind);
+    let figures = driving::cleared(state.figures, kind);
     State {
         junction: state.junction,
-        clock: Clock(state.clock.0 + run.order.rules.break_time.0),
-        spell: Wheel(0),
-        shift,
+        clock: Clock(state.clock.0 + time.0),
+        figures,
     }
-}
-
-// The state after a rest.
-pub fn after_rest(run: Run, state: State) -> State
-    requires { ⌜ (state .clock .0 ≤ 2000000000) × (run .order .rules .«rest_time» .0 ≤ 1000000) ⌝ }
-    ensures { λ s. ⌜ s ≡ afterRest (run .order .rules) state ⌝ }
-{
-    let cleared = Wheel(0);
-    State {
-        junction: state.junction,
-        clock: Clock(state.clock.0 + run.order.rules.rest_time.0),
-        spell: cleared,
-        shift: cleared,
-    }
-}
-
-pub fn is_legal(order: Order, state: State) -> bool
-    ensures { λ r. ⌜ r ≡ legal order state ⌝ }
-{
-    if order.rules.spell_limit.0 < state.spell.0 {
-        return false;
-    }
-    if order.rules.shift_limit.0 < state.shift.0 {
-        return false;
-    }
-    state.clock.0 <= order.latest.0
 }
 
 // Whether road r, any number, leaves junction j.
@@ -147,32 +101,27 @@ pub fn leaves_road(map: &[u8], run: Run, j: u32, r: u32) -> bool
     roadmap::road_from(map, sizes, r) == j
 }
 
-pub fn is_park(map: &[u8], run: Run, j: u32) -> bool
+// Whether the rules offer a pause of this kind, any number, in a state.
+pub fn may_pause(map: &[u8], run: Run, state: State, kind: u32) -> bool
     requires { ⌜ Accepted (now map) run ⌝ }
-    requires { ⌜ (1 ≤ j) × (j ≤ junctionCount (now map)) ⌝ }
-    ensures { λ w. ⌜ w ≡ parkIn (tripIn (now (map .entry)) run) j ⌝ }
+    requires { ⌜ InRange (junctionCount (now map)) (run .order) state ⌝ }
+    ensures { λ w. ⌜ w ≡ mayPause (tripIn (now (map .entry)) run) state kind ⌝ }
 {
     let sizes = run.sizes;
-    roadmap::car_park(map, sizes, j) == 1
-}
-
-// Whether a pause at junction j, where the number is any, is offered.
-pub fn pauses_at(map: &[u8], run: Run, j: u32, number: u32) -> bool
-    requires { ⌜ Accepted (now map) run ⌝ }
-    requires { ⌜ (1 ≤ j) × (j ≤ junctionCount (now map)) ⌝ }
-    ensures { λ w. ⌜ w ≡ pausesAt (tripIn (now (map .entry)) run) j number ⌝ }
-{
-    if number != j {
+    if kind < Rules::FIRST_PAUSE {
         return false;
     }
-    is_park(map, run, j)
+    if Rules::LAST_PAUSE < kind {
+        return false;
+    }
+    roadmap::car_park(map, sizes, state.junction) == 1
 }
 
 // What an offered move comes to, by the state after it.
 fn judge(order: Order, state: State) -> Step
     ensures { λ r. ⌜ r ≡ judged true (legal order state) state ⌝ }
 {
-    if is_legal(order, state) {
+    if states::is_legal(order, state) {
         Step::Moved(state)
     } else {
         Step::Overrun
@@ -194,21 +143,23 @@ pub fn drive(map: &[u8], run: Run, state: State, r: u32) -> Step
     Step::Foreign
 }
 
-// The break, or else the rest, at a junction of any number.
-pub fn pause(map: &[u8], run: Run, state: State, number: u32, short: bool) -> Step
+// A pause, of any kind but a drive's and at a junction of any number.
+pub fn pause(map: &[u8], run: Run, state: State, m: Move) -> Step
     requires { ⌜ Accepted (now map) run ⌝ }
     requires { ⌜ InRange (junctionCount (now map)) (run .order) state ⌝ }
-    ensures { λ w. ⌜ w ≡ stepped (tripIn (now (map .entry)) run) state (pauseMove short number) ⌝ }
+    requires { ⌜ (m .kind ≡ 1 → ⊥) ⌝ }
+    ensures { λ w. ⌜ w ≡ stepped (tripIn (now (map .entry)) run) state m ⌝ }
 {
-    let here = state.junction;
-    if pauses_at(map, run, here, number) {
-        let order = run.order;
-        if short {
-            return judge(order, after_break(run, state));
-        }
-        return judge(order, after_rest(run, state));
+    let kind = m.kind;
+    if m.number != state.junction {
+        return Step::Foreign;
     }
-    Step::Foreign
+    if !may_pause(map, run, state, kind) {
+        return Step::Foreign;
+    }
+    let order = run.order;
+    let reached = after_pause(run, state, kind);
+    judge(order, reached)
 }
 
 // Any move, as a sheet may hold it.
@@ -217,18 +168,10 @@ pub fn take_move(map: &[u8], run: Run, state: State, m: Move) -> Step
     requires { ⌜ InRange (junctionCount (now map)) (run .order) state ⌝ }
     ensures { λ w. ⌜ w ≡ stepped (tripIn (now (map .entry)) run) state m ⌝ }
 {
-    let kind = m.kind;
-    let number = m.number;
-    if kind == Move::DRIVE {
-        return drive(map, run, state, number);
+    if m.kind == Move::DRIVE {
+        return drive(map, run, state, m.number);
     }
-    if kind == Move::BREAK {
-        return pause(map, run, state, number, true);
-    }
-    if kind == Move::REST {
-        return pause(map, run, state, number, false);
-    }
-    Step::Foreign
+    pause(map, run, state, m)
 }
 
 // A run whose map and order are accepted, or why there is none.

@@ -4,6 +4,7 @@ ghost use lib.ListN.{length};
 ghost use Rattle.io.specs.Counts.{Counts};
 ghost use Rattle.moves.specs.Runs.{Accepted};
 ghost use Rattle.sheets.specs.Sheet.{headerBytes};
+use driving::Rules;
 use libc::STDOUT_FILENO;
 use moves::Move;
 use moves::Opened;
@@ -11,6 +12,7 @@ use moves::Run;
 use replies::Reply;
 use sheets::Heading;
 use sheets::Row;
+use states::State;
 
 // Map and order together may fill so many bytes.
 const MOST_BYTES: usize = 65536;
@@ -18,11 +20,13 @@ const MOST_BYTES: usize = 65536;
 // One byte more shows that a file is longer.
 const FILE_BYTES: usize = 65537;
 
-// 1,600 labels of eight words.
-const LABEL_WORDS: usize = 12800;
+// The labels that a search may settle.
+const LABELS: usize = 1600;
 
-// The header and 1,599 records: a plan of 1,600 labels has no more moves.
-const SHEET_BYTES: usize = Heading::BYTES + 1599 * Row::BYTES;
+const SPACE_WORDS: usize = LABELS * State::LABEL_WORDS;
+
+// The header and a record for each label but the first: no plan has more moves.
+const SHEET_BYTES: usize = Heading::BYTES + (LABELS - 1) * Row::BYTES;
 
 // What is printed waits in a page of so many bytes.
 const PAGE_BYTES: usize = 4096;
@@ -71,7 +75,7 @@ fn put_kind(page: &mut [u8; PAGE_BYTES], used: usize, kind: u32) -> usize {
     if kind == Move::DRIVE {
         return put_text(page, used, b"drive");
     }
-    if kind == Move::BREAK {
+    if kind == Rules::BREAK {
         return put_text(page, used, b"break");
     }
     put_text(page, used, b"rest")
@@ -166,7 +170,7 @@ fn print_plan(map: &[u8], order: &[u8], sheet: &[u8])
 }
 
 fn plan_and_print(map: &[u8], order: &[u8]) {
-    let mut words = [0u32; LABEL_WORDS];
+    let mut words = [0u32; SPACE_WORDS];
     let mut sheet = [0u8; SHEET_BYTES];
     let reply = planner::plan(map, order, &mut words, &mut sheet).reply();
     if reply.number != 0 {

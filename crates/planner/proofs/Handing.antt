@@ -9,7 +9,7 @@ use Rattle.replies.specs.declared.Refusal.the-variants.{ShortSheet}
 use Rattle.replies.specs.declared.Planning.{Planning}
 use Rattle.replies.specs.Told.{succeeded}
 use Rattle.moves.specs.declared.Run.{Run}
-use Rattle.moves.specs.declared.State.{State}
+use Rattle.states.specs.declared.State.{State}
 use Rattle.moves.specs.Trip.{Trip}
 use Rattle.moves.specs.Runs.{tripIn}
 use Rattle.moves.proofs.Rising.{SoundTrip, run-sound}
@@ -20,18 +20,16 @@ use Rattle.journeys.specs.Labels.{answerIn, label}
 use Rattle.journeys.specs.Plan.{moveCount, planRows, headingAt, plannedSheet}
 use Rattle.journeys.proofs.Plan.{answer-last, plan-short}
 use Rattle.journeys.proofs.Planning.{reply-short, reply-planned}
-use Rattle.labels.specs.declared.Label.{Label}
 use Rattle.labels.specs.LabelWords.{labelAt}
-use Rattle.candidates.specs.Candidates.{stateOf}
 use Rattle.readback.specs.Held.{Found}
 use Rattle.readback.proofs.Read.{label-held}
 use Rattle.readback.proofs.Backward.{sheet-written}
 use Rattle.planner.specs.Parts.{HandedBack}
 
 -- the header of so many moves to a label, which is the last of so many
-abbrev pub headingFor : ℕ → Label → ℕ → Heading
+abbrev pub headingFor : ℕ → State → ℕ → Heading
 headingFor moves label n =
-    record { moves = moves; arrival = record { 0 = label .clock }; spell = record { 0 = label .spell }; shift = record { 0 = label .shift }; labels = n }
+    record { moves = moves; arrival = label .clock; spell = label .figures .spell; shift = label .figures .shift; labels = n }
 
 module _ (map : List ℕ) (run : Run) (words : List ℕ) (n : ℕ) (found : Found map run words n) where
   abbrev trip : Trip
@@ -41,7 +39,7 @@ module _ (map : List ℕ) (run : Run) (words : List ℕ) (n : ℕ) (found : Foun
   sound = run-sound map run (found .accepted)
 
   -- the answer is the last label
-  pub answer-held : answerIn trip ≡ some (stateOf (labelAt words n))
+  pub answer-held : answerIn trip ≡ some (labelAt words n)
   answer-held =
       let last : found .answered .0 ≡ label trip (n - 1) = answer-last trip sound (found .answered .1) (n - 1) (omega (arith, found .held .count, found .held .low)) in
       found .answered .1 ∙ ap some (last ∙ sym (label-held trip words n (found .held) n (found .held .low) (omega arith)))
@@ -57,23 +55,23 @@ module _ (map : List ℕ) (run : Run) (words : List ℕ) (n : ℕ) (found : Foun
           bytes = refl;
         }
 
-    heading-same : headingFor moves (labelAt words n) n ≡ headingAt trip (stateOf (labelAt words n))
+    heading-same : headingFor moves (labelAt words n) n ≡ headingAt trip (labelAt words n)
     heading-same = rw (counted, found .held .count)
 
-    pub handed-written : sheetNeeded moves ≤ length before → (last : Label) → last ≡ labelAt words n → (rows after : List ℕ)
+    pub handed-written : sheetNeeded moves ≤ length before → (last : State) → last ≡ labelAt words n → (rows after : List ℕ)
         → rows ≡ backward (planRows trip) 0 before → after ≡ withHeading rows (headingFor moves last n)
-        → HandedBack map run before after (Planning.Planned n (record { 0 = last .clock }))
+        → HandedBack map run before after (Planning.Planned n (last .clock))
     handed-written fits last is rows after moved written =
         let enough : sheetNeeded (moveCount trip) ≤ length before = rw counted at fits in
         record {
           reply = λ fit room.
-              ap (λ (l : Label). succeeded n (l .clock)) is
-              ∙ ap (λ (count : ℕ). succeeded count (labelAt words n .clock)) (found .held .count)
+              ap (λ (l : State). succeeded n (l .clock .0)) is
+              ∙ ap (λ (count : ℕ). succeeded count (labelAt words n .clock .0)) (found .held .count)
               ∙ sym (reply-planned trip fit (length before) room answer-held enough);
           bytes = written
               ∙ ap (λ (s : List ℕ). withHeading s (headingFor moves last n)) moved
-              ∙ ap (λ (l : Label). withHeading (backward (planRows trip) 0 before) (headingFor moves l n)) is
+              ∙ ap (λ (l : State). withHeading (backward (planRows trip) 0 before) (headingFor moves l n)) is
               ∙ ap (withHeading (backward (planRows trip) 0 before)) heading-same
-              ∙ sheet-written trip (headingAt trip (stateOf (labelAt words n))) before enough
+              ∙ sheet-written trip (headingAt trip (labelAt words n)) before enough
               ∙ ap (λ (o : Option State). plannedSheet trip o before) (sym answer-held);
         }

@@ -18,7 +18,8 @@ use Rattle.moves.specs.Trip.{Trip, tripOf}
 use Rattle.moves.specs.Runs.{tripIn}
 use Rattle.moves.specs.Opened.{runTests}
 use Rattle.theory.specs.Lists.{memb}
-use Rattle.journeys.specs.Planning.{labelsThatFit, beforeSearch, tripFrom, searchTests, planned, searchReply, planReply, planSheetWhen, planSheet}
+use Rattle.journeys.specs.Planning.{beforeSearch, tripFrom, searchTests, planned, searchReply, planReply, planSheetWhen, planSheet}
+use Rattle.states.specs.LabelSpace.{labelsThatFit}
 use Rattle.journeys.proofs.Planning.{sheet-refused}
 use Rattle.search.specs.declared.Outcome.{Outcome}
 use Rattle.search.specs.Turns.{OutcomeSays}

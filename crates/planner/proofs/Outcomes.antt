@@ -9,12 +9,12 @@ use Rattle.replies.specs.declared.Refusal.the-variants.{Full, NoRoad}
 use Rattle.replies.specs.declared.Planning.{Planning}
 use Rattle.replies.specs.Told.{refusedAt}
 use Rattle.moves.specs.declared.Run.{Run}
-use Rattle.moves.specs.declared.State.{State}
+use Rattle.states.specs.declared.State.{State}
 use Rattle.moves.specs.Trip.{Trip}
 use Rattle.moves.specs.Runs.{Accepted, tripIn}
 use Rattle.journeys.specs.Planning.{searchReply}
 use Rattle.journeys.proofs.Planning.{reply-full, reply-no-road}
-use Rattle.candidates.specs.Candidates.{statesOf}
+use Rattle.labels.specs.LabelWords.{settled}
 use Rattle.settling.specs.Settling.{Ended}
 use Rattle.readback.specs.Held.{Found}
 use Rattle.readback.proofs.Ending.{ended-found}
@@ -36,7 +36,7 @@ module _ (map : List ℕ) (run : Run) (ws : List ℕ) (n : ℕ) where
 
   pub exhausted-reply : EndsWithout map run ws n → (fit sheet : ℕ) → n ≤ fit → searchReply (tripIn map run) fit sheet ≡ refusedAt 13 n
   exhausted-reply ended fit sheet room =
-      ended-no-road (tripIn map run) (statesOf ws n) (parentsOf ws n) ended fit sheet (omega (arith, states-length (tripIn map run) ws n))
+      ended-no-road (tripIn map run) (settled ws n) (parentsOf ws n) ended fit sheet (omega (arith, states-length (tripIn map run) ws n))
       ∙ ap (refusedAt 13) (states-length (tripIn map run) ws n)
 
 -- Each outcome.

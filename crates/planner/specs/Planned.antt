@@ -8,7 +8,8 @@ use lib.ListN.{length}
 use Rattle.replies.specs.declared.Planning.{Planning}
 use Rattle.replies.specs.Told.{toldPlan}
 use Rattle.theory.specs.Lists.{memb}
-use Rattle.journeys.specs.Planning.{labelsThatFit, beforeSearch, planReply, planSheet}
+use Rattle.journeys.specs.Planning.{beforeSearch, planReply, planSheet}
+use Rattle.states.specs.LabelSpace.{labelsThatFit}
 
 -- a run of planning: the map, the order, the label space before and after, the sheet before and after, and the answer
 pub record Planned (map order words words′ sheet sheet′ : List ℕ) (answer : Planning) : Type 0 where

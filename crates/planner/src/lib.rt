@@ -7,7 +7,7 @@ ghost use Rattle.sheets.specs.Sheet.{sheetNeeded};
 ghost use Rattle.journeys.specs.Plan.{moveCount};
 ghost use Rattle.readback.specs.Held.{Found};
 ghost use Rattle.search.specs.Turns.{OutcomeSays};
-ghost use Rattle.journeys.specs.Planning.{labelsThatFit};
+ghost use Rattle.states.specs.LabelSpace.{mostLabels, labelsThatFit};
 ghost use Rattle.planner.specs.Parts.{HandedBack, Concluded};
 ghost use Rattle.planner.specs.Planned.{Planned};
 use moves::Opened;
@@ -15,8 +15,6 @@ use moves::Run;
 use replies::Planning;
 use replies::Refusal;
 use search::Outcome;
-use seconds::Clock;
-use seconds::Wheel;
 use sheets::Heading;
 
 // Writes the plan to a sheet that is long enough. The answer is the last label.
@@ -29,18 +27,20 @@ fn write_plan(
     sheet: &mut [u8],
 ) -> Planning
     requires { ⌜ Found (now map) run (now words) n ⌝ }
-    requires { ⌜ n ≤ 1000000 ⌝ }
+    requires { ⌜ n ≤ mostLabels ⌝ }
     requires { ⌜ (moves ≡ moveCount (tripIn (now map) run)) × (sheetNeeded moves ≤ length (now sheet)) ⌝ }
     ensures { λ r. ⌜ HandedBack (now (map .entry)) run (now (sheet .entry)) (now (sheet .exit)) r ⌝ }
 {
     readback::write_moves(map, run, words, n, moves, sheet);
-    let label = labels::read_label(words, n);
-    let arrival = Clock(label.clock);
+    let answer = labels::read_label(words, n);
+    let arrival = answer.clock;
+    let spell = answer.figures.spell;
+    let shift = answer.figures.shift;
     let heading = Heading {
         moves: moves as u32,
         arrival,
-        spell: Wheel(label.spell),
-        shift: Wheel(label.shift),
+        spell,
+        shift,
         labels: n as u32,
     };
     sheets::put_heading(sheet, heading);
@@ -53,7 +53,7 @@ fn write_plan(
 // The plan of a search that found an answer: refused where the sheet is short (14), else written to it.
 fn hand_back(map: &[u8], run: Run, words: &[u32], n: usize, sheet: &mut [u8]) -> Planning
     requires { ⌜ Found (now map) run (now words) n ⌝ }
-    requires { ⌜ n ≤ 1000000 ⌝ }
+    requires { ⌜ n ≤ mostLabels ⌝ }
     ensures { λ r. ⌜ HandedBack (now (map .entry)) run (now (sheet .entry)) (now (sheet .exit)) r ⌝ }
 {
     let moves = readback::count_moves(words, n);
@@ -74,7 +74,7 @@ fn conclude(
     sheet: &mut [u8],
 ) -> Planning
     requires { ⌜ Accepted (now map) run ⌝ }
-    requires { ⌜ fit ≤ 1000000 ⌝ }
+    requires { ⌜ fit ≤ mostLabels ⌝ }
     requires { ⌜ OutcomeSays (now map) run fit (now words) outcome ⌝ }
     ensures { λ r. ⌜ Concluded (now (map .entry)) run fit (now (sheet .entry)) (now (sheet .exit)) r ⌝ }
 {
@@ -90,7 +90,7 @@ fn plan_run(map: &[u8], run: Run, words: &mut [u32], sheet: &mut [u8]) -> Planni
     requires { ⌜ Accepted (now map) run ⌝ }
     ensures { λ r. ⌜ Concluded (now (map .entry)) run (labelsThatFit (length (now (words .entry)))) (now (sheet .entry)) (now (sheet .exit)) r ⌝ }
 {
-    let fit = search::labels_that_fit(words.len());
+    let fit = states::labels_that_fit(words.len());
     let outcome = search::search(map, run, words);
     conclude(map, run, words, fit, outcome, sheet)
 }

@@ -7,7 +7,7 @@ use native.Mathlib.Omega.{arith}
 use lib.ListN.{length, getD, length-append}
 use lib.Seq.{getD-at}
 use Rattle.moves.specs.declared.Run.{Run}
-use Rattle.moves.specs.declared.State.{State}
+use Rattle.states.specs.declared.State.{State}
 use Rattle.moves.specs.declared.Move.{Move}
 use Rattle.moves.specs.Trip.{Trip}
 use Rattle.moves.specs.Runs.{tripIn}
@@ -18,7 +18,6 @@ use Rattle.sheets.specs.Sheet.{sheetNeeded, sheetAfter, withHeading, withRow}
 use Rattle.sheets.specs.Written.{backward}
 use Rattle.sheets.proofs.Writing.{length-with-row, backward-start, backward-step, backward-end}
 use Rattle.labels.specs.LabelWords.{parentOf, labelAt}
-use Rattle.candidates.specs.Candidates.{stateOf}
 use Rattle.journeys.specs.Labels.{label, parentIn}
 use Rattle.journeys.specs.Plan.{moveTo, planRows, moveCount}
 use Rattle.journeys.proofs.Rows.{rowAt, plan-rows-length}
@@ -72,24 +71,24 @@ module _ (bytes : List ℕ) (run : Run) (words : List ℕ) (n : ℕ) (found : Fo
       omega (arith, writing .many, ap length (back .rows), length-append (rowsBack trip (parentIn trip (label trip (k - 1)))) (rowAt (back .by-move) (label trip (k - 1)) ∷ []))
 
   -- the record of label k's own move is the last that is left
-  own-row : (k : ℕ) (row : Row) → 1 < k → k ≤ n → RowFor trip (stateOf (labelAt words (parentOf words k))) (stateOf (labelAt words k)) row
+  own-row : (k : ℕ) (row : Row) → 1 < k → k ≤ n → RowFor trip (labelAt words (parentOf words k)) (labelAt words k) row
       → rowsBack trip (k - 1) ≡ rowsBack trip (parentOf words k - 1) ++ row ∷ []
   own-row k row more high for =
       let i : ℕ = k - 1 in
       let back = back-next trip (run-sound bytes run (found .accepted)) i (omega arith) (omega (arith, found .held .count)) in
       let p : ℕ = parentIn trip (label trip i) in
       let index : parentOf words k - 1 ≡ p = omega (arith, parent-word trip words n (found .held) k more high) in
-      let here : stateOf (labelAt words k) ≡ label trip i = label-held trip words n (found .held) k (omega arith) high in
+      let here : labelAt words k ≡ label trip i = label-held trip words n (found .held) k (omega arith) high in
       let same : for .by ≡ back .by-move = Option·some-injective _ _ (sym (for .lowest) ∙ moves-same (parent-state bytes run words n found k more high) here ∙ back .is-lowest) in
       let is : row ≡ rowAt (back .by-move) (label trip i) =
-      for .is ∙ ap (λ (m : Move). rowAt m (stateOf (labelAt words k))) same ∙ ap (rowAt (back .by-move)) here in
+      for .is ∙ ap (λ (m : Move). rowAt m (labelAt words k)) same ∙ ap (rowAt (back .by-move)) here in
       rw (index, is) (back .rows)
     where
       moves-same : {a b c d : State} → a ≡ b → c ≡ d → moveTo trip a c ≡ moveTo trip b d
       moves-same {a} {b} {c} {d} e f = ap (λ (z : State). moveTo trip z c) e ∙ ap (moveTo trip b) f
 
   pub write-next : (sheet : List ℕ) (k left : ℕ) (row : Row) → Writing trip n before sheet k left → 1 < k → sheetNeeded (moveCount trip) ≤ length before
-      → RowFor trip (stateOf (labelAt words (parentOf words k))) (stateOf (labelAt words k)) row → Writing trip n before (withRow sheet left row) (parentOf words k) (left - 1)
+      → RowFor trip (labelAt words (parentOf words k)) (labelAt words k) row → Writing trip n before (withRow sheet left row) (parentOf words k) (left - 1)
   write-next sheet k left row writing more fits for =
       let own = own-row k row more (writing .high) for in
       let parent = held-descends trip words n (found .held) .parents k more (writing .high) in

@@ -4,23 +4,23 @@ use mathlib.Core.List.{List}
 use mathlib.Core.Option.{some}
 use Prim.Native.Nat.{ℕ, _+_, _-_, _*_, _≤_, _<_}
 use native.Mathlib.Omega.{arith}
-use lib.ListN.{length, getD, length-map}
+use lib.ListN.{length, getD}
 use Rattle.moves.specs.declared.Run.{Run}
-use Rattle.moves.specs.declared.State.{State}
+use Rattle.states.specs.declared.State.{State}
 use Rattle.moves.specs.Trip.{Trip}
 use Rattle.moves.specs.Runs.{Accepted, tripIn}
 use Rattle.moves.proofs.Rising.{SoundTrip, run-sound}
 use Rattle.journeys.specs.Labels.{labelCount}
 use Rattle.journeys.proofs.Labels.{label-some}
-use Rattle.labels.specs.LabelWords.{stride, parentField, parentOf, settled, column}
+use Rattle.states.specs.LabelSpace.{labelWords}
+use Rattle.labels.specs.LabelWords.{parentField, parentOf, settled, column}
 use Rattle.labels.proofs.LabelWords.{settled-length, column-at}
-use Rattle.candidates.specs.Candidates.{stateOf, statesOf}
 use Rattle.settling.specs.Settling.{Ended}
 use Rattle.readback.specs.Held.{Holds, Found}
 
 -- the lists of the loop's end are those of the words
 pub ended-holds : (trip : Trip) → SoundTrip trip → (words : List ℕ) (n : ℕ) {a : State}
-    → Ended trip (some a) (statesOf words n) (column parentField words n) → stride * n ≤ length words → Holds trip words n
+    → Ended trip (some a) (settled words n) (column parentField words n) → labelWords * n ≤ length words → Holds trip words n
 ended-holds trip sound words n ended fits =
     record {
       low = low;
@@ -33,7 +33,7 @@ ended-holds trip sound words n ended fits =
     }
   where
     count : n ≡ labelCount trip
-    count = omega (arith, ended .count, length-map (settled words n) stateOf, settled-length words n)
+    count = omega (arith, ended .count, settled-length words n)
 
     low : 1 ≤ n
     low = omega (arith, count, label-some trip sound)
@@ -45,7 +45,7 @@ ended-holds trip sound words n ended fits =
         (column-at parentField words n (i + 1) 0 (omega arith) (omega arith)))
 
 pub ended-found : (map : List ℕ) (run : Run) → Accepted map run → (words : List ℕ) (n : ℕ) {a : State}
-    → Ended (tripIn map run) (some a) (statesOf words n) (column parentField words n) → stride * n ≤ length words → Found map run words n
+    → Ended (tripIn map run) (some a) (settled words n) (column parentField words n) → labelWords * n ≤ length words → Found map run words n
 ended-found map run accepted words n {a} ended fits =
     record {
       accepted = accepted;

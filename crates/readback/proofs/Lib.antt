@@ -1,6 +1,5 @@
 -- The laws of reading a plan back.
 -- Assumes nothing.
-pub mod Same
 pub mod Leading
 pub mod Walk
 pub mod Back

@@ -1,12 +1,12 @@
 -- The words of a label are the definition's label, its figures are in range, and its parent has a move to it. Assumes nothing.
-use mathlib.Core.Path.{_≡_, _∙_, refl, sym, ap}
-use mathlib.Core.List.{List, [], _∷_, map}
-use Prim.Native.Nat.{ℕ, zero, suc, _-_, _≤_, _<_}
+use mathlib.Core.Path.{_≡_, _∙_, sym, ap}
+use mathlib.Core.List.{List}
+use Prim.Native.Nat.{ℕ, _-_, _≤_, _<_}
 use native.Mathlib.Omega.{arith}
 use lib.ListN.{getD}
 use Rattle.roadmap.specs.Format.{junctionCount}
 use Rattle.moves.specs.declared.Run.{Run}
-use Rattle.moves.specs.declared.State.{State}
+use Rattle.states.specs.declared.State.{State}
 use Rattle.moves.specs.Trip.{Trip, tripOf}
 use Rattle.moves.specs.Runs.{InRange, tripIn}
 use Rattle.moves.proofs.Trips.{junctions-in, order-in}
@@ -17,30 +17,23 @@ use Rattle.journeys.specs.Labels.{labelsIn, label, parentIn}
 use Rattle.journeys.proofs.Journeys.{RangeIn, reached-range}
 use Rattle.journeys.proofs.Labels.{label-exactly}
 use Rattle.journeys.proofs.Plan.{parent-move}
-use Rattle.labels.specs.LabelWords.{parentOf, labelAt, settled}
+use Rattle.labels.specs.LabelWords.{parentOf, labelAt}
 use Rattle.labels.proofs.LabelWords.{settled-at}
-use Rattle.candidates.specs.Candidates.{stateOf, labelOf}
 use Rattle.readback.specs.Moving.{SomeMove}
 use Rattle.readback.specs.Held.{Holds, Found}
 use Rattle.readback.proofs.Counted.{parent-word, held-descends}
 
-getD-map : {A B : Type 0} (f : A → B) (l : List A) (d : A) (i : ℕ) → getD (map f l) i (f d) ≡ f (getD l i d)
-getD-map f [] d i = refl
-getD-map f (x ∷ xs) d zero = refl
-getD-map f (x ∷ xs) d (suc i) = getD-map f xs d i
-
 -- label k of the words
-pub label-held : (trip : Trip) (words : List ℕ) (n : ℕ) → Holds trip words n → (k : ℕ) → 1 ≤ k → k ≤ n → stateOf (labelAt words k) ≡ label trip (k - 1)
+pub label-held : (trip : Trip) (words : List ℕ) (n : ℕ) → Holds trip words n → (k : ℕ) → 1 ≤ k → k ≤ n → labelAt words k ≡ label trip (k - 1)
 label-held trip words n held k low high =
-    ap stateOf (sym (settled-at words n k (labelOf (startIn trip)) low high))
-    ∙ sym (getD-map stateOf (settled words n) (labelOf (startIn trip)) (k - 1))
+    sym (settled-at words n k (startIn trip) low high)
     ∙ ap (λ (l : List State). getD l (k - 1) (startIn trip)) (held .states)
 
 module _ (map : List ℕ) (run : Run) (words : List ℕ) (n : ℕ) (found : Found map run words n) where
   abbrev trip : Trip
   trip = tripIn map run
 
-  pub label-range : (k : ℕ) → 1 ≤ k → k ≤ n → InRange (junctionCount map) (run .order) (stateOf (labelAt words k))
+  pub label-range : (k : ℕ) → 1 ≤ k → k ≤ n → InRange (junctionCount map) (run .order) (labelAt words k)
   unfolding tripOf
   label-range k low high =
       rw (label-held trip words n (found .held) k low high) (rw (junctions-in map (run .order), order-in map (run .order)) at range)
@@ -49,13 +42,13 @@ module _ (map : List ℕ) (run : Run) (words : List ℕ) (n : ℕ) (found : Foun
       range = reached-range trip (run-sound map run (found .accepted)) (label-exactly trip (run-sound map run (found .accepted)) (label trip (k - 1)) .0 (mem-at (startIn trip) (labelsIn trip) (k - 1) (omega (arith, found .held .count))) .0 .reached)
 
   -- the parent's words are the definition's parent
-  pub parent-state : (k : ℕ) → 1 < k → k ≤ n → stateOf (labelAt words (parentOf words k)) ≡ label trip (parentIn trip (label trip (k - 1)))
+  pub parent-state : (k : ℕ) → 1 < k → k ≤ n → labelAt words (parentOf words k) ≡ label trip (parentIn trip (label trip (k - 1)))
   parent-state k low high =
       let before = held-descends trip words n (found .held) .parents k low high in
       let index : parentOf words k - 1 ≡ parentIn trip (label trip (k - 1)) = omega (arith, parent-word trip words n (found .held) k low high) in
       label-held trip words n (found .held) (parentOf words k) (before .low) (omega (arith, before .below)) ∙ ap (label trip) index
 
-  pub parent-leads : (k : ℕ) → 1 < k → k ≤ n → SomeMove trip (stateOf (labelAt words (parentOf words k))) (stateOf (labelAt words k))
+  pub parent-leads : (k : ℕ) → 1 < k → k ≤ n → SomeMove trip (labelAt words (parentOf words k)) (labelAt words k)
   parent-leads k low high =
       rw (parent-state k low high, label-held trip words n (found .held) k (omega arith) high)
       (parent-move trip (run-sound map run (found .accepted)) (k - 1) (omega arith) (omega (arith, found .held .count)))

@@ -13,12 +13,12 @@ use Rattle.roadmap.specs.Format.{junctionCount, roadCount, firstRoad, nextRoad,
 use Rattle.mapcheck.specs.MapCheck.{AcceptedMap}
 use Rattle.mapcheck.proofs.Listed.{LowestFrom, lowest-from}
 use Rattle.driving.specs.declared.Order.{Order}
-use Rattle.moves.specs.declared.State.{State}
+use Rattle.states.specs.declared.State.{State}
 use Rattle.moves.specs.Trip.{tripOf}
 use Rattle.moves.specs.Moves.{move}
 use Rattle.journeys.specs.Plan.{movesTo}
 use Rattle.candidates.proofs.Roads.{upTo, at-road, at-end, accepted-made}
-use Rattle.readback.specs.Moving.{Drives, RoadTo, passesBy}
+use Rattle.readback.specs.Moving.{Takes, RoadTo, passesBy}
 use Rattle.readback.proofs.Leading.{road-offered, offered-road}
 
 module _ (map : List ℕ) (o : Order) (p t : State) where
@@ -26,11 +26,11 @@ module _ (map : List ℕ) (o : Order) (p t : State) where
     pub within : r ≤ roadCount map
     pub own : 1 ≤ r → roadFrom map r ≡ p .junction
     -- a road that leads to t is not before r
-    pub ahead : (k : ℕ) → Drives (tripOf map o) p t k → upTo (roadCount map) r ≤ k
+    pub ahead : (k : ℕ) → Takes (tripOf map o) p t (move 1 k) → upTo (roadCount map) r ≤ k
 
   -- from road k on the walk goes to the lowest road of the junction
   onward : (k n x : ℕ) → k + n ≡ roadCount map + 1 → LowestFrom (roadFrom map) (p .junction) k n x
-      → ((c : ℕ) → Drives (tripOf map o) p t c → k ≤ c) → Walking x
+      → ((c : ℕ) → Takes (tripOf map o) p t (move 1 c) → k ≤ c) → Walking x
   onward k n x all at from =
       record {
         within = omega (arith, at .high);

@@ -4,20 +4,20 @@ use mathlib.Core.List.{List}
 use mathlib.Core.Option.{some}
 use Prim.Native.Nat.{ℕ, _+_, _*_, _≤_, _<_}
 use lib.ListN.{length}
-use Rattle.moves.specs.declared.State.{State}
+use Rattle.states.specs.declared.State.{State}
 use Rattle.moves.specs.declared.Run.{Run}
 use Rattle.moves.specs.Trip.{Trip}
 use Rattle.moves.specs.Runs.{Accepted, tripIn}
 use Rattle.journeys.specs.Labels.{answerIn, labelsIn, labelCount, label, parentIn}
 use Rattle.journeys.specs.Plan.{moveCount}
-use Rattle.labels.specs.LabelWords.{stride, parentOf}
-use Rattle.candidates.specs.Candidates.{statesOf}
+use Rattle.states.specs.LabelSpace.{labelWords}
+use Rattle.labels.specs.LabelWords.{parentOf, settled}
 
 pub record Holds (trip : Trip) (words : List ℕ) (n : ℕ) : Type 0 where
   pub low : 1 ≤ n
-  pub fits : stride * n ≤ length words
+  pub fits : labelWords * n ≤ length words
   pub count : n ≡ labelCount trip
-  pub states : statesOf words n ≡ labelsIn trip
+  pub states : settled words n ≡ labelsIn trip
   -- the start has no parent, every other label has the definition's, which stands before it
   pub root : parentOf words 1 ≡ 0
   pub parents : (i : ℕ) → 1 ≤ i → i < n → parentOf words (i + 1) ≡ parentIn trip (label trip i) + 1
@@ -40,7 +40,7 @@ pub record ParentBefore (words : List ℕ) (k : ℕ) : Type 0 where
 
 pub record Descends (words : List ℕ) (n : ℕ) : Type 0 where
   pub low : 1 ≤ n
-  pub fits : stride * n ≤ length words
+  pub fits : labelWords * n ≤ length words
   pub parents : (k : ℕ) → 1 < k → k ≤ n → ParentBefore words k
 
 -- m is the number of moves, whichever run the words hold

@@ -2,49 +2,33 @@
 ghost use mathlib.Core.Path.{_≡_};
 ghost use mathlib.Core.Bool.{_&&_};
 ghost use mathlib.Core.Option.{some};
-ghost use Prim.Native.Nat.{_*_, _≤_};
+ghost use Prim.Native.Nat.{_≤_};
 ghost use lib.ListN.{length};
 ghost use Rattle.roadmap.specs.Format.{junctionCount, roadCount};
-ghost use Rattle.moves.specs.Moves.{legal};
+ghost use Rattle.states.specs.States.{legal, sameState};
+ghost use Rattle.driving.specs.Hours.{firstPause};
 ghost use Rattle.moves.specs.Runs.{Accepted, InRange, tripIn};
 ghost use Rattle.sheets.specs.Sheet.{sheetNeeded};
 ghost use Rattle.sheets.specs.Written.{backward};
-ghost use Rattle.journeys.specs.Ranked.{sameState};
 ghost use Rattle.journeys.specs.Plan.{moveTo, moveCount, planRows};
-ghost use Rattle.labels.specs.LabelWords.{stride, labelAt};
-ghost use Rattle.candidates.specs.Candidates.{stateOf};
-ghost use Rattle.readback.specs.Moving.{SomeMove, RoadTo, passesBy};
+ghost use Rattle.readback.specs.Moving.{SomeMove, RoadTo, passesBy, SomePause, PauseTo, pausesTo};
 ghost use Rattle.readback.specs.Held.{Found, Descends, CountsMoves};
 ghost use Rattle.readback.specs.Rows.{RowFor};
 use driving::Order;
+use driving::Rules;
 use moves::Move;
 use moves::Run;
-use moves::State;
 use sheets::Row;
-
-fn same_state(b: State, a: State) -> bool
-    ensures { λ r. ⌜ r ≡ sameState b a ⌝ }
-{
-    if b.junction != a.junction {
-        return false;
-    }
-    if b.clock.0 != a.clock.0 {
-        return false;
-    }
-    if b.spell.0 != a.spell.0 {
-        return false;
-    }
-    b.shift.0 == a.shift.0
-}
+use states::State;
 
 // Whether a state is legal and is t.
 fn leads_to(order: Order, state: State, t: State) -> bool
     ensures { λ r. ⌜ r ≡ (legal order state && sameState state t) ⌝ }
 {
-    if !moves::is_legal(order, state) {
+    if !states::is_legal(order, state) {
         return false;
     }
-    same_state(state, t)
+    states::same_state(state, t)
 }
 
 // Whether a chain is followed past a road: it is not the chain's end, and its drive does not lead legally to t.
@@ -73,16 +57,38 @@ fn road_to(map: &[u8], run: Run, p: State, t: State) -> u32
     reader.road
 }
 
-// The parent's move to t: the lowest kind, then the lowest road. Where no road leads there some pause
-// does, so the junction is a car park without asking, and where the break does not, the rest does.
+// Whether the pause of this kind is offered in p and leads legally to t.
+fn pauses_to(map: &[u8], run: Run, p: State, t: State, kind: u32) -> bool
+    requires { ⌜ Accepted (now map) run × InRange (junctionCount (now map)) (run .order) p × (firstPause ≤ kind) ⌝ }
+    ensures { λ b. ⌜ b ≡ pausesTo (tripIn (now (map .entry)) run) p t kind ⌝ }
+{
+    if !moves::may_pause(map, run, p, kind) {
+        return false;
+    }
+    let order = run.order;
+    let paused = moves::after_pause(run, p, kind);
+    leads_to(order, paused, t)
+}
+
+// The lowest kind of pause that leads legally to t: some kind does.
+fn pause_to(map: &[u8], run: Run, p: State, t: State) -> u32
+    requires { ⌜ Accepted (now map) run × InRange (junctionCount (now map)) (run .order) p × SomePause (tripIn (now map) run) p t ⌝ }
+    ensures { λ kind. ⌜ PauseTo (tripIn (now (map .entry)) run) p t kind ⌝ }
+{
+    let mut kind = Rules::FIRST_PAUSE;
+    while !pauses_to(map, run, p, t, kind) {
+        kind += 1;
+    }
+    kind
+}
+
+// The parent's move to t: the lowest kind, then the lowest road. Where no road leads there some pause does.
 pub fn move_to(map: &[u8], run: Run, p: State, t: State) -> Move
     requires { ⌜ Accepted (now map) run ⌝ }
     requires { ⌜ InRange (junctionCount (now map)) (run .order) p ⌝ }
     requires { ⌜ SomeMove (tripIn (now map) run) p t ⌝ }
     ensures { λ m. ⌜ moveTo (tripIn (now (map .entry)) run) p t ≡ some m ⌝ }
 {
-    let order = run.order;
-    let here = p.junction;
     let road = road_to(map, run, p, t);
     if 0 < road {
         return Move {
@@ -90,16 +96,10 @@ pub fn move_to(map: &[u8], run: Run, p: State, t: State) -> Move
             number: road,
         };
     }
-    let paused = moves::after_break(run, p);
-    if leads_to(order, paused, t) {
-        return Move {
-            kind: Move::BREAK,
-            number: here,
-        };
-    }
+    let kind = pause_to(map, run, p, t);
     Move {
-        kind: Move::REST,
-        number: here,
+        kind,
+        number: p.junction,
     }
 }
 
@@ -115,14 +115,6 @@ pub fn count_moves(words: &[u32], n: usize) -> usize
         m += 1;
     }
     m
-}
-
-fn state_at(words: &[u32], k: usize) -> State
-    requires { ⌜ (1 ≤ k) × (stride * k ≤ length (now words)) ⌝ }
-    ensures { λ r. ⌜ r ≡ stateOf (labelAt (now (words .entry)) k) ⌝ }
-{
-    let label = labels::read_label(words, k);
-    candidates::state_of(label)
 }
 
 // The record of the parent's move from p to t.
@@ -151,8 +143,8 @@ pub fn write_moves(map: &[u8], run: Run, words: &[u32], n: usize, m: usize, shee
     let mut left = m;
     while 1 < k {
         let parent = labels::parent(words, k) as usize;
-        let from = state_at(words, parent);
-        let to = state_at(words, k);
+        let from = labels::read_label(words, parent);
+        let to = labels::read_label(words, k);
         let row = row_for(map, run, from, to);
         sheets::write_row(sheet, left, row);
         left -= 1;

@@ -15,9 +15,9 @@ use Rattle.replies.proofs.First.{Numbered, none-fitted, none-of-both, none-at-a
 use Rattle.mapcheck.proofs.Counts.{placed-none}
 use Rattle.driving.specs.declared.Order.{Order}
 use Rattle.driving.specs.Order.{orderOf}
-use Rattle.moves.specs.declared.State.{State}
+use Rattle.states.specs.declared.State.{State}
 use Rattle.moves.specs.Trip.{Trip, tripOf}
-use Rattle.moves.specs.Moves.{startOf}
+use Rattle.states.specs.States.{startOf}
 use Rattle.moves.specs.Opened.{runTests}
 use Rattle.sheets.specs.declared.Heading.{Heading}
 use Rattle.sheets.specs.declared.Row.{Row}
@@ -79,7 +79,7 @@ met order sheet (reached s rows) all = record { s = s; rows = rows; is = refl }
 -- the figures that retiming writes into the header are true
 own-figures : (given : Heading) (s : State) → falseFigures (retimedHeading given s) s ≡ false
 unfolding falseFigures
-own-figures given s = rw (eq-eqb (s .clock .0) (s .clock .0) refl, eq-eqb (s .spell .0) (s .spell .0) refl, eq-eqb (s .shift .0) (s .shift .0) refl)
+own-figures given s = rw (eq-eqb (s .clock .0) (s .clock .0) refl, eq-eqb (s .figures .spell .0) (s .figures .spell .0) refl, eq-eqb (s .figures .shift .0) (s .figures .shift .0) refl)
 
 -- the refusal that a walk meets numbers from 1, and so do the refusals of retiming and of audit
 move-numbered : (clocks : Bool) (map : List ℕ) (order : Order) (sheet : List ℕ) → ltb 0 (moveTest (timing clocks map order sheet) .number) ≡ true

@@ -13,7 +13,7 @@ use Rattle.replies.specs.First.{_at_, firstOf, NoneFits, Refuses}
 use Rattle.replies.specs.Told.{refusedAt, succeeded, toldRefusal}
 use Rattle.replies.proofs.First.{none-fits, stops-at, passed-over}
 use Rattle.driving.specs.declared.Order.{Order}
-use Rattle.moves.specs.declared.State.{State}
+use Rattle.states.specs.declared.State.{State}
 use Rattle.sheets.specs.declared.Heading.{Heading}
 use Rattle.sheets.specs.Sheet.{headingOf, torn}
 use Rattle.retiming.specs.declared.Walked.{Walked}
@@ -68,8 +68,8 @@ module _ (order : Order) (sheet : List ℕ) (success : Reply) where
       ∙ passed-over (18 at falseHeader (headingOf sheet) (reached t rows)) [] success (rw (← ended, e))
 
 -- with arrival and spell true the shift decides
-pub figures-by-shift : (heading : Heading) (s : State) → heading .arrival .0 ≡ s .clock .0 → heading .spell .0 ≡ s .spell .0 →
-    not (eqb (heading .shift .0) (s .shift .0)) ≡ falseFigures heading s
+pub figures-by-shift : (heading : Heading) (s : State) → heading .arrival .0 ≡ s .clock .0 → heading .spell .0 ≡ s .figures .spell .0 →
+    not (eqb (heading .shift .0) (s .figures .shift .0)) ≡ falseFigures heading s
 unfolding falseFigures
 figures-by-shift heading s arrival spell = rw (eq-eqb _ _ arrival, eq-eqb _ _ spell)
 

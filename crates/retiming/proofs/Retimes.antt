@@ -15,7 +15,7 @@ use Rattle.replies.proofs.First.{none-fits, stops-at, passed-over, refusal-numb
 use Rattle.driving.specs.declared.Order.{Order}
 use Rattle.driving.specs.Order.{orderOf}
 use Rattle.moves.specs.Opened.{runTests}
-use Rattle.moves.specs.declared.State.{State}
+use Rattle.states.specs.declared.State.{State}
 use Rattle.sheets.specs.declared.Heading.{Heading}
 use Rattle.sheets.specs.Sheet.{headingOf, sheetNeeded, sheetAfter, withHeading, shortSheet}
 use Rattle.sheets.specs.Written.{rowsPut}
@@ -31,7 +31,7 @@ use Rattle.retiming.proofs.Rewriting.{reached-is, walk-length}
 -- the header with true figures
 abbrev pub retimedHeading : Heading → State → Heading
 retimedHeading given s =
-    record { moves = given .moves; arrival = s .clock; spell = s .spell; shift = s .shift; labels = given .labels }
+    record { moves = given .moves; arrival = s .clock; spell = s .figures .spell; shift = s .figures .shift; labels = given .labels }
 
 module _ (map : List ℕ) (order : Order) (sheet before : List ℕ) where
   abbrev timed : Walk

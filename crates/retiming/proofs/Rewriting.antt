@@ -9,9 +9,9 @@ use lib.Seq.{length-take-le}
 use Rattle.replies.specs.declared.Refusal.{Refusal}
 use Rattle.roadmap.specs.Format.{junctionCount}
 use Rattle.moves.specs.declared.Run.{Run}
-use Rattle.moves.specs.declared.State.{State}
+use Rattle.states.specs.declared.State.{State}
 use Rattle.moves.specs.Trip.{Trip}
-use Rattle.moves.specs.Moves.{startOf}
+use Rattle.states.specs.States.{startOf}
 use Rattle.moves.specs.Runs.{Accepted, InRange, tripIn}
 use Rattle.moves.proofs.Rising.{start-range}
 use Rattle.sheets.specs.declared.Row.{Row}

@@ -6,12 +6,13 @@ use Prim.Native.Nat.{ℕ, zero, suc, _+_, _-_, _≤_}
 use lib.Dec.{eqb, lit≤}
 use native.Mathlib.Omega.{arith}
 use Rattle.replies.specs.declared.Refusal.{Refusal}
-use Rattle.moves.specs.declared.State.{State}
+use Rattle.states.specs.declared.State.{State}
 use Rattle.moves.specs.declared.Move.{Move}
 use Rattle.moves.specs.declared.Step.{Step}
 use Rattle.moves.specs.declared.Step.the-variants.{Foreign, Overrun, Moved}
 use Rattle.moves.specs.Trip.{Trip}
-use Rattle.moves.specs.Moves.{judged, stepped, offers, after, legal}
+use Rattle.moves.specs.Moves.{judged, stepped, offers, after}
+use Rattle.states.specs.States.{legal}
 use Rattle.roadmap.specs.Format.{junctionCount}
 use Rattle.driving.specs.declared.Order.{Order}
 use Rattle.moves.specs.declared.Run.{Run}

@@ -15,7 +15,7 @@ use Rattle.driving.specs.declared.Order.{Order}
 use Rattle.sheets.specs.declared.Row.{Row}
 use Rattle.sheets.specs.Sheet.{headingOf, shortSheet}
 use Rattle.sheets.specs.Written.{Whole}
-use Rattle.moves.specs.declared.State.{State}
+use Rattle.states.specs.declared.State.{State}
 use Rattle.retiming.specs.declared.Walked.{Walked}
 use Rattle.retiming.specs.Walk.{Walk, refused, reached, arrivalReached}
 use Rattle.retiming.specs.Retiming.{movesOn, timing, sheetTests, falseHeader, retimedTo}

@@ -13,9 +13,9 @@ use Rattle.replies.specs.Told.{succeeded, toldTiming}
 use Rattle.replies.specs.Pick.{pick}
 use Rattle.driving.specs.declared.Order.{Order}
 use Rattle.driving.specs.Order.{orderOf}
-use Rattle.moves.specs.declared.State.{State}
+use Rattle.states.specs.declared.State.{State}
 use Rattle.moves.specs.Trip.{tripOf}
-use Rattle.moves.specs.Moves.{startOf}
+use Rattle.states.specs.States.{startOf}
 use Rattle.moves.specs.Opened.{runTests}
 use Rattle.sheets.specs.declared.Heading.{Heading}
 use Rattle.sheets.specs.Sheet.{headingOf, rowsOf, sheetAfter, shortSheet, tornSheet}
@@ -53,8 +53,8 @@ retimedTo heading (reached s rows) out =
     (record {
       moves = heading .moves;
       arrival = s .clock;
-      spell = s .spell;
-      shift = s .shift;
+      spell = s .figures .spell;
+      shift = s .figures .shift;
       labels = heading .labels;
     })
     rows
@@ -76,7 +76,7 @@ pub record Retimed (map order sheet before after : List ℕ) (answer : Timing) :
 unfoldable pub falseFigures : Heading → State → Bool
 falseFigures heading s =
     not (eqb (heading .arrival .0) (s .clock .0))
-    || (not (eqb (heading .spell .0) (s .spell .0)) || not (eqb (heading .shift .0) (s .shift .0)))
+    || (not (eqb (heading .spell .0) (s .figures .spell .0)) || not (eqb (heading .shift .0) (s .figures .shift .0)))
 
 abbrev pub falseHeader : Heading → Walk → Option ℕ
 falseHeader heading (refused number move) = none

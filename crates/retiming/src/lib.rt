@@ -15,13 +15,13 @@ ghost use Rattle.retiming.specs.Parts.{clockWalk, WalkSays, SheetSays, E
 use moves::Move;
 use moves::Opened;
 use moves::Run;
-use moves::State;
 use moves::Step;
 use replies::Refusal;
 use replies::Timing;
 use seconds::Clock;
 use sheets::Heading;
 use sheets::Row;
+use states::State;
 
 // Where a walk over a sheet's records ends.
 pub enum Walked {
@@ -68,7 +68,7 @@ fn walk_sheet(map: &[u8], run: Run, sheet: &[u8], clocks: bool) -> Walked
 {
     let order = run.order;
     let moves = words::word(sheet, 0) as usize;
-    let mut state = moves::start_of(order);
+    let mut state = states::start_of(order);
     let mut k: usize = 1;
     while k <= moves {
         let row = sheets::read_row(sheet, k);
@@ -110,10 +110,10 @@ fn header_is_false(heading: Heading, state: State) -> bool
     if heading.arrival.0 != state.clock.0 {
         return true;
     }
-    if heading.spell.0 != state.spell.0 {
+    if heading.spell.0 != state.figures.spell.0 {
         return true;
     }
-    heading.shift.0 != state.shift.0
+    heading.shift.0 != state.figures.shift.0
 }
 
 fn audit_run(map: &[u8], run: Run, sheet: &[u8]) -> Timing
@@ -158,7 +158,7 @@ fn write_rows(map: &[u8], run: Run, sheet: &[u8], out: &mut [u8])
 {
     let order = run.order;
     let moves = words::word(sheet, 0) as usize;
-    let mut state = moves::start_of(order);
+    let mut state = states::start_of(order);
     let mut k: usize = 1;
     while k <= moves {
         let row = sheets::read_row(sheet, k);
@@ -195,8 +195,8 @@ fn retime_run(map: &[u8], run: Run, sheet: &[u8], out: &mut [u8]) -> Timing
             }
             write_rows(map, run, sheet, out);
             let arrival = state.clock;
-            let spell = state.spell;
-            let shift = state.shift;
+            let spell = state.figures.spell;
+            let shift = state.figures.shift;
             let heading = Heading {
                 moves: given.moves,
                 arrival,

@@ -8,20 +8,19 @@ use native.Mathlib.Decide.{ℕ-discrete}
 use lib.ListN.{length, getD, set}
 use lib.Seq.{getD-set-same, getD-set-other}
 use Rattle.roadmap.specs.Format.{junctionCount}
-use Rattle.moves.specs.declared.State.{State}
+use Rattle.states.specs.declared.State.{State}
 use Rattle.moves.specs.declared.Run.{Run}
-use Rattle.moves.specs.Moves.{startOf}
+use Rattle.states.specs.States.{startOf}
 use Rattle.moves.specs.Trip.{tripOf}
 use Rattle.moves.specs.Runs.{Accepted, InRange, tripIn}
 use Rattle.moves.proofs.Trips.{order-in}
 use Rattle.moves.proofs.Rising.{start-range, run-sound}
 use Rattle.journeys.specs.Journeys.{startIn}
-use Rattle.labels.specs.declared.Label.{Label}
-use Rattle.labels.specs.LabelWords.{stride, largestWord, settled, column}
+use Rattle.states.specs.LabelSpace.{labelWords}
+use Rattle.labels.specs.LabelWords.{largestWord, settled, column}
 use Rattle.labels.specs.Lists.{Lists, LabelAdded}
 use Rattle.labels.proofs.Lists.{lists-none, lists-same}
 use Rattle.candidates.specs.declared.Bound.{Bound}
-use Rattle.candidates.specs.Candidates.{stateOf, labelOf, statesOf, Cursor}
 use Rattle.candidates.specs.Next.{NextIs}
 use Rattle.winners.specs.Keys.{Ready}
 use Rattle.winners.specs.Mending.{Mended}
@@ -57,24 +56,20 @@ module _ (map : List ℕ) (run : Run) (ok : Accepted map run) {start : State} (i
   in-trip = is ∙ ap startOf (sym (order-in map (run .order)))
 
   -- the start has come in as the first label
-  module _ {ws ws₁ hs ss fs : List ℕ} {label : Label} {u : ℕ} (told : label ≡ labelOf start) (next : NextIs (tripIn map run) (statesOf ws 0) start Bound.Nothing u)
-      (A : LabelAdded ws ws₁ hs ss fs 0 label 0 u) where
-    first-state : stateOf label ≡ start
-    first-state = ap stateOf told
-
+  module _ {ws ws₁ hs ss fs : List ℕ} {u : ℕ} (next : NextIs (tripIn map run) (settled ws 0) start Bound.Nothing u)
+      (A : LabelAdded ws ws₁ hs ss fs 0 start 0 u) where
     pub first-ready : length ws₁ ≡ length ws → Ready map run ws₁ 1
     first-ready long =
-        ready-added (A .added) map run (λ k low high. absurd (omega arith)) long (omega (arith, A .lists .room)) (omega arith) (rw first-state start-within)
-        (subst (λ (z : State). Cursor (tripIn map run) z u) (sym first-state) (next .names))
+        ready-added (A .added) map run (λ k low high. absurd (omega arith)) long (omega (arith, A .lists .room)) (omega arith) start-within (next .names)
 
     loop-next : NextIs (tripIn map run) (startIn (tripIn map run) ∷ []) (startIn (tripIn map run)) Bound.Nothing u
     unfolding settled
     loop-next = subst (λ (z : State). NextIs (tripIn map run) (z ∷ []) z Bound.Nothing u) in-trip (next-wider (tripIn map run) [] start start Bound.Nothing u next)
 
     module _ {ws′ : List ℕ} (M : Mended map run ws₁ ws′ 1) where
-      states : statesOf ws′ 1 ≡ startIn (tripIn map run) ∷ []
+      states : settled ws′ 1 ≡ startIn (tripIn map run) ∷ []
       unfolding settled
-      states = added-states ws ws₁ ws′ (A .added) (M .only) ∙ ap (λ (z : State). z ∷ []) (first-state ∙ in-trip)
+      states = added-states ws ws₁ ws′ (A .added) (M .only) ∙ ap (λ (z : State). z ∷ []) in-trip
 
       cursors : cursorsOf ws′ 1 ≡ u ∷ []
       unfolding column
@@ -104,7 +99,7 @@ module _ (map : List ℕ) (run : Run) where
   unfolding tripOf
   source-is = refl
 
-  pub begins-home : {ws hs ss fs : List ℕ} → run .order .source ≡ run .order .target → Begun map run ws hs ss fs → stride * 1 ≤ length ws → EndsFound map run ws 1
+  pub begins-home : {ws hs ss fs : List ℕ} → run .order .source ≡ run .order .target → Begun map run ws hs ss fs → labelWords * 1 ≤ length ws → EndsFound map run ws 1
   begins-home same begun room =
       record { answer = startIn (tripIn map run); room = room; ended = begun .home (at-home map run (startIn (tripIn map run)) (source-is ∙ same)) }
 

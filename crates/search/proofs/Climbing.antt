@@ -6,17 +6,17 @@ use native.Mathlib.Omega.{arith}
 use native.Mathlib.Decide.{decLe}
 use lib.ListN.{set}
 use Rattle.booleans.proofs.Tests.{T-true, true-T}
-use Rattle.moves.specs.declared.State.{State}
+use Rattle.states.specs.declared.State.{State}
 use Rattle.moves.specs.declared.Run.{Run}
 use Rattle.moves.specs.Runs.{Accepted, tripIn}
-use Rattle.journeys.proofs.Ranked.{rank-order}
-use Rattle.labels.specs.LabelWords.{labelAt, cursorOf, winnerOf}
+use Rattle.states.proofs.Compared.{rank-order}
+use Rattle.labels.specs.LabelWords.{labelAt, cursorOf, winnerOf, settled}
 use Rattle.candidates.specs.declared.Bound.{Bound}
-use Rattle.candidates.specs.Candidates.{stateOf, statesOf, rankNumber}
+use Rattle.states.specs.RankNumber.{wordBase, Small, rankNumber}
 use Rattle.candidates.specs.Next.{NextIs}
-use Rattle.winners.specs.Keys.{noKey, keyAt, Small}
+use Rattle.winners.specs.Keys.{noKey, keyAt}
 use Rattle.winners.specs.Mending.{Advanced, LeastKey}
-use Rattle.winners.proofs.Ranks.{rank-low, number-low}
+use Rattle.states.proofs.Ranks.{rank-low, number-low}
 use Rattle.winners.proofs.Keys.{candidate, key-open, key-below, key-has, result-small}
 use Rattle.winners.proofs.Steps.{leads}
 use Rattle.settling.specs.Settling.{candidateOf, Winner, Later}
@@ -27,42 +27,42 @@ use Rattle.search.proofs.Leading.{is-winner}
 use Rattle.search.proofs.Turning.{loop-candidate, loop-state}
 
 -- a later turn has a higher key
-later-key : (c c′ : State) (r r′ : ℕ) → Small c → Small c′ → 1 ≤ r → 1 ≤ r′ → r < 4294967296 → Later c (r - 1) c′ (r′ - 1)
-    → rankNumber c * 4294967296 + r < rankNumber c′ * 4294967296 + r′
+later-key : (c c′ : State) (r r′ : ℕ) → Small c → Small c′ → 1 ≤ r → 1 ≤ r′ → r < wordBase → Later c (r - 1) c′ (r′ - 1)
+    → rankNumber c * wordBase + r < rankNumber c′ * wordBase + r′
 later-key c c′ r r′ small small′ low low′ few later = go (decLe (rankNumber c′) (rankNumber c))
   where
     under : rankNumber c ≤ rankNumber c′
     under = rank-low c c′ small small′ (T-true (later .rank))
 
-    go : Dec (rankNumber c′ ≤ rankNumber c) → rankNumber c * 4294967296 + r < rankNumber c′ * 4294967296 + r′
+    go : Dec (rankNumber c′ ≤ rankNumber c) → rankNumber c * wordBase + r < rankNumber c′ * wordBase + r′
     go (yes h) =
         let same : c ≡ c′ = rank-order .antisym c c′ (later .rank) (true-T (number-low c′ c small′ small h)) in
         omega (arith, under, later .number same)
     go (no h) = omega (arith, under)
 
 module _ (map : List ℕ) (run : Run) (ok : Accepted map run) {ws hs ss fs : List ℕ} {n : ℕ} (U : Underway map run ws hs ss fs n) (r : ℕ) (c : State) (won : Chosen map run ws n r c)
-    (ws′ : List ℕ) (v : ℕ) (next : NextIs (tripIn map run) (statesOf ws n) (stateOf (labelAt ws r)) (Bound.Above c) v) (A : Advanced map run ws ws′ n r v) where
+    (ws′ : List ℕ) (v : ℕ) (next : NextIs (tripIn map run) (settled ws n) (labelAt ws r) (Bound.Above c) v) (A : Advanced map run ws ws′ n r v) where
   leads′ : LeastKey (tripIn map run) ws′ n (winnerOf ws′ 1)
   leads′ = leads (tripIn map run) ws′ n (U .low) (A .tree)
 
   small : Small c
   small =
-      subst Small (sym (won .is)) (result-small map run ok (stateOf (labelAt ws r)) (cursorOf ws r) (U .ready r (won .low) (won .high) .range) (U .ready r (won .low) (won .high) .cursor (won .has)))
+      subst Small (sym (won .is)) (result-small map run ok (labelAt ws r) (cursorOf ws r) (U .ready r (won .low) (won .high) .range) (U .ready r (won .low) (won .high) .cursor (won .has)))
 
-  key-is : keyAt (tripIn map run) ws r ≡ rankNumber c * 4294967296 + r
-  key-is = key-open (tripIn map run) ws r (won .low) (won .has) ∙ ap (λ (z : State). rankNumber z * 4294967296 + r) (sym (won .is))
+  key-is : keyAt (tripIn map run) ws r ≡ rankNumber c * wordBase + r
+  key-is = key-open (tripIn map run) ws r (won .low) (won .has) ∙ ap (λ (z : State). rankNumber z * wordBase + r) (sym (won .is))
 
   module _ (r′ : ℕ) (L′ : LeastKey (tripIn map run) ws′ n r′) (low′ : 1 ≤ r′) (has′ : 1 ≤ cursorOf ws′ r′) where
     small′ : Small (candidate (tripIn map run) ws′ r′)
     small′ =
-        result-small map run ok (stateOf (labelAt ws′ r′)) (cursorOf ws′ r′) (A .ready r′ low′ (L′ .within) .range) (A .ready r′ low′ (L′ .within) .cursor has′)
+        result-small map run ok (labelAt ws′ r′) (cursorOf ws′ r′) (A .ready r′ low′ (L′ .within) .range) (A .ready r′ low′ (L′ .within) .cursor has′)
 
-    winner′ : Winner (tripIn map run) (statesOf ws n) (set (cursorsOf ws n) (r - 1) v) (r′ - 1)
+    winner′ : Winner (tripIn map run) (settled ws n) (set (cursorsOf ws n) (r - 1) v) (r′ - 1)
     winner′ =
         subst₂ (λ (l : List State) (k : List ℕ). Winner (tripIn map run) l k (r′ - 1)) (advanced-states A) (advanced-cursors A (won .low) (won .high))
         (is-winner map run ok ws′ n (A .ready) r′ L′ low′ has′)
 
-    candidate′ : candidateOf (tripIn map run) (statesOf ws n) (set (cursorsOf ws n) (r - 1) v) (r′ - 1) ≡ candidate (tripIn map run) ws′ r′
+    candidate′ : candidateOf (tripIn map run) (settled ws n) (set (cursorsOf ws n) (r - 1) v) (r′ - 1) ≡ candidate (tripIn map run) ws′ r′
     candidate′ =
         subst₂ (λ (l : List State) (k : List ℕ). candidateOf (tripIn map run) l k (r′ - 1) ≡ candidate (tripIn map run) ws′ r′) (advanced-states A) (advanced-cursors A (won .low) (won .high))
         (candidate-is (tripIn map run) ws′ n r′ low′ (L′ .within))
@@ -70,8 +70,8 @@ module _ (map : List ℕ) (run : Run) (ok : Accepted map run) {ws hs ss fs : Lis
     later′ : Later c (r - 1) (candidate (tripIn map run) ws′ r′) (r′ - 1)
     later′ =
         subst₂ (λ (z z′ : State). Later z (r - 1) z′ (r′ - 1)) (loop-candidate map run U r c won) candidate′
-        (covered-later (tripIn map run) (statesOf ws n) (cursorsOf ws n) (parentsOf ws n) (U .loop) (r - 1) (won .winner) v
-        (subst₂ (λ (s z : State). NextIs (tripIn map run) (statesOf ws n) s (Bound.Above z) v) (sym (loop-state map run U r c won)) (sym (loop-candidate map run U r c won)) next)
+        (covered-later (tripIn map run) (settled ws n) (cursorsOf ws n) (parentsOf ws n) (U .loop) (r - 1) (won .winner) v
+        (subst₂ (λ (s z : State). NextIs (tripIn map run) (settled ws n) s (Bound.Above z) v) (sym (loop-state map run U r c won)) (sym (loop-candidate map run U r c won)) next)
         (r′ - 1) winner′)
 
     higher : keyAt (tripIn map run) ws r < keyAt (tripIn map run) ws′ r′

@@ -1,19 +1,18 @@
 -- The labels' words as the loop's three lists. Assumes nothing.
 use mathlib.Core.Path.{_≡_, _∙_, sym, ap}
-use mathlib.Core.List.{List, [], _∷_, _++_, map-append}
-use mathlib.Core.List as list
+use mathlib.Core.List.{List, [], _∷_, _++_}
 use Prim.Native.Nat.{ℕ, _+_, _-_, _≤_, _<_}
 use native.Mathlib.Omega.{arith}
 use native.Mathlib.Decide.{ℕ-discrete}
-use lib.ListN.{length, getD, set, length-set, length-map, List·getD-map}
+use lib.ListN.{length, getD, set, length-set}
 use lib.Seq.{getD-set-same, getD-set-other, ext-getD}
 use Rattle.moves.specs.declared.Run.{Run}
 use Rattle.moves.specs.Trip.{Trip}
 use Rattle.journeys.specs.Journeys.{startIn}
-use Rattle.labels.specs.declared.Label.{Label}
-use Rattle.labels.specs.LabelWords.{stride, parentField, cursorField, winnerField, at, field, labelAt, cursorOf, settled, column, Added}
+use Rattle.states.specs.declared.State.{State}
+use Rattle.states.specs.LabelSpace.{labelWords}
+use Rattle.labels.specs.LabelWords.{parentField, cursorField, winnerField, at, field, labelAt, cursorOf, settled, column, Added}
 use Rattle.labels.proofs.LabelWords.{settled-length, settled-at, column-length, column-at, column-same, column-added, settled-same}
-use Rattle.candidates.specs.Candidates.{stateOf, labelOf, statesOf}
 use Rattle.settling.specs.Settling.{stateAt, candidateOf}
 use Rattle.winners.specs.Keys.{OnlyWinners}
 use Rattle.winners.specs.Mending.{Advanced}
@@ -26,20 +25,19 @@ cursor-at ws n i h =
     ap (λ x. getD (cursorsOf ws n) x 0) e ∙ column-at cursorField ws n (i + 1) 0 (omega arith) (omega arith)
 
 module _ (trip : Trip) (ws : List ℕ) (n : ℕ) where
-  pub states-length : length (statesOf ws n) ≡ n
-  states-length = length-map (settled ws n) stateOf ∙ settled-length ws n
+  pub states-length : length (settled ws n) ≡ n
+  states-length = settled-length ws n
 
   module _ (k : ℕ) (low : 1 ≤ k) (high : k ≤ n) where
-    pub state-is : stateAt trip (statesOf ws n) (k - 1) ≡ stateOf (labelAt ws k)
+    pub state-is : stateAt trip (settled ws n) (k - 1) ≡ labelAt ws k
     state-is =
-        List·getD-map stateOf (settled ws n) (k - 1) (labelOf (startIn trip))
-        ∙ ap stateOf (settled-at ws n k (labelOf (startIn trip)) low high)
+        settled-at ws n k (startIn trip) low high
 
     pub cursor-is : getD (cursorsOf ws n) (k - 1) 0 ≡ cursorOf ws k
     cursor-is = column-at cursorField ws n k 0 low high
 
     -- the loop's candidate is the tree's
-    pub candidate-is : candidateOf trip (statesOf ws n) (cursorsOf ws n) (k - 1) ≡ candidate trip ws k
+    pub candidate-is : candidateOf trip (settled ws n) (cursorsOf ws n) (k - 1) ≡ candidate trip ws k
     candidate-is = rw (state-is, cursor-is)
 
   -- index i is label i + 1
@@ -47,15 +45,15 @@ module _ (trip : Trip) (ws : List ℕ) (n : ℕ) where
     pub cursor-next : getD (cursorsOf ws n) i 0 ≡ cursorOf ws (i + 1)
     cursor-next = cursor-at ws n i h
 
-    pub candidate-next : candidateOf trip (statesOf ws n) (cursorsOf ws n) i ≡ candidate trip ws (i + 1)
+    pub candidate-next : candidateOf trip (settled ws n) (cursorsOf ws n) i ≡ candidate trip ws (i + 1)
     candidate-next =
         let e : i ≡ i + 1 - 1 = omega arith in
-        ap (λ x. candidateOf trip (statesOf ws n) (cursorsOf ws n) x) e ∙ candidate-is (i + 1) (omega arith) (omega arith)
+        ap (λ x. candidateOf trip (settled ws n) (cursorsOf ws n) x) e ∙ candidate-is (i + 1) (omega arith) (omega arith)
 
 -- A label's cursor has changed, and nothing else but winners.
 module _ {map : List ℕ} {run : Run} {ws ws′ : List ℕ} {n k v : ℕ} (A : Advanced map run ws ws′ n k v) where
-  pub advanced-states : statesOf ws′ n ≡ statesOf ws n
-  advanced-states = ap (λ (l : List Label). list.map stateOf l) (A .settled)
+  pub advanced-states : settled ws′ n ≡ settled ws n
+  advanced-states = A .settled
 
   pub advanced-parents : parentsOf ws′ n ≡ parentsOf ws n
   advanced-parents = column-same parentField ws ws′ n (λ m low high. A .others (at m parentField) (λ e. omega arith) (λ e. omega arith))
@@ -78,15 +76,14 @@ module _ {map : List ℕ} {run : Run} {ws ws′ : List ℕ} {n k v : ℕ} (A : A
           ∙ sym (getD-set-other (cursorsOf ws n) (k - 1) i v 0 e ∙ cursor-at ws n i h)
 
 -- A label has come in, and nothing else but winners has changed.
-module _ (ws ws₁ ws′ : List ℕ) {n : ℕ} {label : Label} {parent cursor : ℕ} (A : Added ws ws₁ n label parent cursor) (only : OnlyWinners ws₁ ws′) where
-  entered : (f : ℕ) → f < stride → ¬ (f ≡ winnerField) → column f ws′ (n + 1) ≡ column f ws n ++ (field ws₁ (n + 1) f ∷ [])
+module _ (ws ws₁ ws′ : List ℕ) {n : ℕ} {label : State} {parent cursor : ℕ} (A : Added ws ws₁ n label parent cursor) (only : OnlyWinners ws₁ ws′) where
+  entered : (f : ℕ) → f < labelWords → ¬ (f ≡ winnerField) → column f ws′ (n + 1) ≡ column f ws n ++ (field ws₁ (n + 1) f ∷ [])
   entered f small other =
       column-same f ws₁ ws′ (n + 1) (λ m low high. only (at m f) (λ e. other (omega arith))) ∙ column-added f ws ws₁ n label parent cursor small A
 
-  pub added-states : statesOf ws′ (n + 1) ≡ statesOf ws n ++ stateOf label ∷ []
+  pub added-states : settled ws′ (n + 1) ≡ settled ws n ++ label ∷ []
   added-states =
-      ap (λ (l : List Label). list.map stateOf l) (settled-same ws₁ ws′ (n + 1) (only-labels ws₁ ws′ only (n + 1)) ∙ A .settled)
-      ∙ map-append stateOf (settled ws n) (label ∷ [])
+      settled-same ws₁ ws′ (n + 1) (only-labels ws₁ ws′ only (n + 1)) ∙ A .settled
 
   pub added-cursors : cursorsOf ws′ (n + 1) ≡ cursorsOf ws n ++ cursor ∷ []
   added-cursors = entered cursorField (omega arith) (λ e. omega arith) ∙ ap (λ x. cursorsOf ws n ++ x ∷ []) (A .is-cursor)

@@ -8,9 +8,8 @@ use lib.ListN.{length, getD}
 use Rattle.booleans.proofs.Tests.{true-T}
 use Rattle.moves.specs.declared.Run.{Run}
 use Rattle.moves.specs.Runs.{Accepted, tripIn}
-use Rattle.journeys.specs.Ranked.{ranksNoHigher}
-use Rattle.labels.specs.LabelWords.{cursorOf}
-use Rattle.candidates.specs.Candidates.{statesOf}
+use Rattle.states.specs.States.{ranksNoHigher}
+use Rattle.labels.specs.LabelWords.{cursorOf, settled}
 use Rattle.winners.specs.Keys.{noKey, keyAt, Ready}
 use Rattle.winners.specs.Mending.{LeastKey}
 use Rattle.winners.proofs.Keys.{candidate, key-rank, key-tie}
@@ -21,7 +20,7 @@ use Rattle.search.proofs.Columns.{states-length, cursor-is, candidate-i
 
 module _ (map : List ℕ) (run : Run) (ok : Accepted map run) (ws : List ℕ) (n : ℕ) (ready : Ready map run ws n) (r : ℕ) (leads : LeastKey (tripIn map run) ws n r) where
   -- the root's label wins
-  pub is-winner : 1 ≤ r → 1 ≤ cursorOf ws r → Winner (tripIn map run) (statesOf ws n) (cursorsOf ws n) (r - 1)
+  pub is-winner : 1 ≤ r → 1 ≤ cursorOf ws r → Winner (tripIn map run) (settled ws n) (cursorsOf ws n) (r - 1)
   is-winner low live = record {
     within = omega (arith, states-length (tripIn map run) ws n, leads .within);
     has = rw (cursor-is (tripIn map run) ws n r low (leads .within)) live;
@@ -32,18 +31,18 @@ module _ (map : List ℕ) (run : Run) (ok : Accepted map run) (ws : List ℕ) (n
       opened : (i : ℕ) → i < n → 1 ≤ getD (cursorsOf ws n) i 0 → 1 ≤ cursorOf ws (i + 1)
       opened i h has = omega (arith, cursor-next (tripIn map run) ws n i h)
 
-      least : (i : ℕ) → i < n → 1 ≤ getD (cursorsOf ws n) i 0 → T (ranksNoHigher (candidateOf (tripIn map run) (statesOf ws n) (cursorsOf ws n) (r - 1)) (candidateOf (tripIn map run) (statesOf ws n) (cursorsOf ws n) i))
+      least : (i : ℕ) → i < n → 1 ≤ getD (cursorsOf ws n) i 0 → T (ranksNoHigher (candidateOf (tripIn map run) (settled ws n) (cursorsOf ws n) (r - 1)) (candidateOf (tripIn map run) (settled ws n) (cursorsOf ws n) i))
       least i h has =
           rw (candidate-is (tripIn map run) ws n r low (leads .within), candidate-next (tripIn map run) ws n i h) (true-T (key-rank map run ok ws r (i + 1) (ready r low (leads .within)) (ready (i + 1) (omega arith) (omega arith)) low (omega arith) live (opened i h has) (leads .least (i + 1) (omega arith) (omega arith))))
 
-      first : (i : ℕ) → i < r - 1 → 1 ≤ getD (cursorsOf ws n) i 0 → ¬ (candidateOf (tripIn map run) (statesOf ws n) (cursorsOf ws n) i ≡ candidateOf (tripIn map run) (statesOf ws n) (cursorsOf ws n) (r - 1))
+      first : (i : ℕ) → i < r - 1 → 1 ≤ getD (cursorsOf ws n) i 0 → ¬ (candidateOf (tripIn map run) (settled ws n) (cursorsOf ws n) i ≡ candidateOf (tripIn map run) (settled ws n) (cursorsOf ws n) (r - 1))
       first i h has e =
           let inside : i < n = omega (arith, leads .within) in
           let same : candidate (tripIn map run) ws r ≡ candidate (tripIn map run) ws (i + 1) = sym (candidate-is (tripIn map run) ws n r low (leads .within)) ∙ sym e ∙ candidate-next (tripIn map run) ws n i inside in
           absurd (omega (arith, key-tie map run ok ws r (i + 1) (ready r low (leads .within)) (ready (i + 1) (omega arith) (omega arith)) low (omega arith) live (opened i inside has) (leads .least (i + 1) (omega arith) (omega arith)) same))
 
   -- where the root's label has no candidate, none has
-  pub all-shut : noKey ≤ keyAt (tripIn map run) ws r → (i : ℕ) → i < length (statesOf ws n) → getD (cursorsOf ws n) i 0 ≡ 0
+  pub all-shut : noKey ≤ keyAt (tripIn map run) ws r → (i : ℕ) → i < length (settled ws n) → getD (cursorsOf ws n) i 0 ≡ 0
   all-shut shut i h =
       let inside : i < n = omega (arith, states-length (tripIn map run) ws n) in
       cursor-next (tripIn map run) ws n i inside ∙ none-left map run ws n r ok ready leads shut (i + 1) (omega arith) (omega arith)

@@ -1,23 +1,20 @@
 -- The labels that fit are a part of the lent words. Assumes nothing.
-use mathlib.Core.Path.{_≡_, _∙_, refl, sym, ap, subst, subst₂}
+use mathlib.Core.Path.{_≡_, _∙_, refl, sym, subst, subst₂}
 use mathlib.Core.List.{List, _++_}
-use mathlib.Core.List as list
 use mathlib.Core.Option.{Option, none, some}
 use Prim.Native.Nat.{ℕ, _+_, _-_, _*_, _≤_, _<_}
 use native.Mathlib.Omega.{arith}
 use lib.ListN.{length, getD, drop, length-append, List·getD-append}
 use borrow.Rule.Slice.PartMut.{midOf, putMid, mid-len, drop-put}
 use Rattle.moves.specs.declared.Run.{Run}
-use Rattle.moves.specs.declared.State.{State}
+use Rattle.states.specs.declared.State.{State}
 use Rattle.moves.specs.Trip.{Trip}
 use Rattle.moves.specs.Runs.{Accepted, tripIn}
 use Rattle.moves.proofs.Rising.{run-sound}
-use Rattle.journeys.specs.Planning.{labelsThatFit}
+use Rattle.states.specs.LabelSpace.{labelsThatFit, labelWords}
 use Rattle.journeys.proofs.Labels.{label-some}
-use Rattle.labels.specs.declared.Label.{Label}
-use Rattle.labels.specs.LabelWords.{stride, junctionField, clockField, spellField, shiftField, parentField, previousField, at, Same}
+use Rattle.labels.specs.LabelWords.{parentField, previousField, at, Same, settled}
 use Rattle.labels.proofs.LabelWords.{column-same, settled-same}
-use Rattle.candidates.specs.Candidates.{stateOf, statesOf}
 use Rattle.settling.specs.Settling.{Ended}
 use Rattle.search.specs.declared.Outcome.{Outcome}
 use Rattle.search.specs.Underway.{parentsOf}
@@ -30,27 +27,22 @@ none-fits map run ok ws shut =
     record { ends = full (omega (arith, shut, label-some (tripIn map run) (run-sound map run ok))); beyond = refl }
 
 -- Labels that stand in the part stand in the whole.
-module _ (part rest : List ℕ) (n : ℕ) (room : stride * n ≤ length part) where
-  in-part : (p : ℕ) → p < stride * n → getD (part ++ rest) p 0 ≡ getD part p 0
+module _ (part rest : List ℕ) (n : ℕ) (room : labelWords * n ≤ length part) where
+  in-part : (p : ℕ) → p < labelWords * n → getD (part ++ rest) p 0 ≡ getD part p 0
   in-part p h = List·getD-append part rest 0 p (omega (arith, room, h))
 
-  part-column : (f : ℕ) → f < stride → Same f part (part ++ rest) n
+  part-column : (f : ℕ) → f < labelWords → Same f part (part ++ rest) n
   part-column f small k low high = in-part (at k f) (omega arith)
 
-  part-states : statesOf (part ++ rest) n ≡ statesOf part n
+  part-states : settled (part ++ rest) n ≡ settled part n
   part-states =
-      ap (λ (l : List Label). list.map stateOf l) (settled-same part (part ++ rest) n (record {
-        junctions = part-column junctionField (omega arith);
-        clocks = part-column clockField (omega arith);
-        spells = part-column spellField (omega arith);
-        shifts = part-column shiftField (omega arith);
-        previous = part-column previousField (omega arith);
-      }))
+      settled-same part (part ++ rest) n
+      (record { states = λ f small. part-column f (omega arith); previous = part-column previousField (omega arith) })
 
   part-parents : parentsOf (part ++ rest) n ≡ parentsOf part n
   part-parents = column-same parentField part (part ++ rest) n (part-column parentField (omega arith))
 
-  part-ended : (trip : Trip) (answer : Option State) → Ended trip answer (statesOf part n) (parentsOf part n) → Ended trip answer (statesOf (part ++ rest) n) (parentsOf (part ++ rest) n)
+  part-ended : (trip : Trip) (answer : Option State) → Ended trip answer (settled part n) (parentsOf part n) → Ended trip answer (settled (part ++ rest) n) (parentsOf (part ++ rest) n)
   part-ended trip answer ended = subst₂ (λ (L : List State) (P : List ℕ). Ended trip answer L P) (sym part-states) (sym part-parents) ended
 
 part-found : (part rest : List ℕ) (n : ℕ) (map : List ℕ) (run : Run) → EndsFound map run part n → EndsFound map run (part ++ rest) n
@@ -62,7 +54,7 @@ part-found part rest n map run ends =
     }
 
 -- how the search ends in the part it ends in the whole
-part-ends : (map : List ℕ) (run : Run) (fit : ℕ) (part rest : List ℕ) (outcome : Outcome) → stride * fit ≤ length part
+part-ends : (map : List ℕ) (run : Run) (fit : ℕ) (part rest : List ℕ) (outcome : Outcome) → labelWords * fit ≤ length part
     → OutcomeSays map run fit part outcome → OutcomeSays map run fit (part ++ rest) outcome
 part-ends map run fit part rest outcome room (found ends few) =
     found (part-found part rest _ map run ends) few
@@ -71,10 +63,10 @@ part-ends map run fit part rest outcome room (exhausted ended few) =
 part-ends map run fit part rest outcome room (full above) = full above
 
 pub part-searched : (map : List ℕ) (run : Run) (ws part : List ℕ) (fit : ℕ) {outcome : Outcome} → fit ≡ labelsThatFit (length ws)
-    → length part ≡ length (midOf 0 (stride * fit - 0) ws) → OutcomeSays map run fit part outcome → Searched map run ws (putMid 0 (stride * fit - 0) ws part) outcome
+    → length part ≡ length (midOf 0 (labelWords * fit - 0) ws) → OutcomeSays map run fit part outcome → Searched map run ws (putMid 0 (labelWords * fit - 0) ws part) outcome
 part-searched map run ws part fit {outcome} e kept says =
-    let long : length part ≡ stride * fit - 0 = kept ∙ mid-len 0 (stride * fit) ws (omega (arith, e)) in
+    let long : length part ≡ labelWords * fit - 0 = kept ∙ mid-len 0 (labelWords * fit) ws (omega (arith, e)) in
     record {
-      ends = subst (λ (k : ℕ). OutcomeSays map run k (putMid 0 (stride * fit - 0) ws part) outcome) e (part-ends map run fit part _ outcome (omega (arith, long)) says);
-      beyond = subst (λ (k : ℕ). drop (stride * k) (putMid 0 (stride * fit - 0) ws part) ≡ drop (stride * k) ws) e (drop-put 0 (stride * fit) ws part (omega arith) (omega (arith, e)) long);
+      ends = subst (λ (k : ℕ). OutcomeSays map run k (putMid 0 (labelWords * fit - 0) ws part) outcome) e (part-ends map run fit part _ outcome (omega (arith, long)) says);
+      beyond = subst (λ (k : ℕ). drop (labelWords * k) (putMid 0 (labelWords * fit - 0) ws part) ≡ drop (labelWords * k) ws) e (drop-put 0 (labelWords * fit) ws part (omega arith) (omega (arith, e)) long);
     }

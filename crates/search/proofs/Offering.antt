@@ -6,16 +6,16 @@ use native.Mathlib.Omega.{arith}
 use borrow.Author.Tests.{eq-eqb}
 use lib.Dec.{T, eqb→eq}
 use Rattle.booleans.proofs.Tests.{true-T}
-use Rattle.moves.specs.declared.State.{State}
+use Rattle.states.specs.declared.State.{State}
 use Rattle.moves.specs.declared.Run.{Run}
 use Rattle.moves.specs.Runs.{Accepted, tripIn}
 use Rattle.moves.specs.Trip.{tripOf}
 use Rattle.theory.specs.States.{Covered}
 use Rattle.journeys.specs.Journeys.{atTarget}
-use Rattle.journeys.specs.Ranked.{covers}
-use Rattle.labels.specs.LabelWords.{labelAt, cursorOf, winnerOf}
+use Rattle.states.specs.States.{covers}
+use Rattle.labels.specs.LabelWords.{labelAt, cursorOf, winnerOf, settled}
 use Rattle.labels.specs.Lists.{LabelAdded}
-use Rattle.candidates.specs.Candidates.{stateOf, labelOf, statesOf, resultAt}
+use Rattle.candidates.specs.Candidates.{resultAt}
 use Rattle.winners.specs.Keys.{keyAt}
 use Rattle.winners.specs.Mending.{LeastKey}
 use Rattle.winners.proofs.Keys.{key-none, key-shut}
@@ -39,7 +39,7 @@ module _ (map : List ℕ) (run : Run) (c : State) where
 module _ (map : List ℕ) (run : Run) (ok : Accepted map run) {ws hs ss fs : List ℕ} {n : ℕ} (U : Underway map run ws hs ss fs n) where
   -- the label that leads, with a candidate, has the lowest
   pub leader-chosen : (r : ℕ) (c : State) → 1 ≤ r → LeastKey (tripIn map run) ws n r → 1 ≤ cursorOf ws r
-      → c ≡ resultAt (tripIn map run) (stateOf (labelAt ws r)) (cursorOf ws r) → Chosen map run ws n r c
+      → c ≡ resultAt (tripIn map run) (labelAt ws r) (cursorOf ws r) → Chosen map run ws n r c
   leader-chosen r c low lead has is =
       record { low = low; high = lead .within; has = has; is = is; winner = is-winner map run ok ws n (U .ready) r lead low has }
 
@@ -51,8 +51,8 @@ module _ (map : List ℕ) (run : Run) (ok : Accepted map run) {ws hs ss fs : Lis
   leader-shut r lead shut = ends-without map run ok U r lead (omega (arith, key-shut (tripIn map run) ws r shut))
 
   -- the target is reached
-  pub reaches : (r : ℕ) (c : State) → Chosen map run ws n r c → (Covered covers (statesOf ws n) c → ⊥) → c .junction ≡ run .order .target
-      → {ws₁ hs′ ss′ fs′ : List ℕ} → LabelAdded ws ws₁ hs′ ss′ fs′ n (labelOf c) r 0 → EndsFound map run ws₁ (n + 1)
+  pub reaches : (r : ℕ) (c : State) → Chosen map run ws n r c → (Covered covers (settled ws n) c → ⊥) → c .junction ≡ run .order .target
+      → {ws₁ hs′ ss′ fs′ : List ℕ} → LabelAdded ws ws₁ hs′ ss′ fs′ n c r 0 → EndsFound map run ws₁ (n + 1)
   reaches r c won new home {ws₁} {hs′} {ss′} {fs′} added =
       record {
         answer = c;

@@ -1,22 +1,20 @@
 -- Where the loop stops: no candidate is left, the space is full, or the target is reached. Assumes nothing.
 use mathlib.Core.Path.{_≡_, sym, subst, subst₂}
-use mathlib.Core.List.{List, [], _∷_, _++_, Memᴰ·of-map}
+use mathlib.Core.List.{List, [], _∷_, _++_}
 use mathlib.Core.Option.{none, some}
 use Prim.Native.Nat.{ℕ, _+_, _-_, _≤_, _<_}
 use native.Mathlib.Omega.{arith}
 use lib.Dec.{T}
-use Rattle.moves.specs.declared.State.{State}
+use Rattle.states.specs.declared.State.{State}
 use Rattle.moves.specs.declared.Run.{Run}
 use Rattle.moves.specs.Runs.{Accepted, tripIn}
 use Rattle.moves.proofs.Rising.{run-sound}
 use Rattle.theory.specs.States.{Covered}
 use Rattle.journeys.specs.Journeys.{atTarget}
 use Rattle.journeys.specs.Labels.{labelCount}
-use Rattle.journeys.specs.Ranked.{covers}
-use Rattle.journeys.proofs.Ranked.{covers-slack}
+use Rattle.states.specs.States.{covers}
 use Rattle.labels.specs.LabelWords.{settled}
-use Rattle.labels.specs.Lists.{SomeCovers, LabelAdded}
-use Rattle.candidates.specs.Candidates.{stateOf, labelOf, statesOf}
+use Rattle.labels.specs.Lists.{LabelAdded}
 use Rattle.winners.specs.Keys.{noKey, keyAt}
 use Rattle.winners.specs.Mending.{LeastKey}
 use Rattle.winners.proofs.Steps.{only-refl}
@@ -27,34 +25,27 @@ use Rattle.search.proofs.Columns.{states-length, added-states, added-pa
 use Rattle.search.proofs.Leading.{all-shut}
 use Rattle.search.proofs.Turning.{loop-candidate}
 
--- a state that a label's state covers is covered as a label is
-pub state-covered : (ws : List ℕ) (n : ℕ) (t : State) → Covered covers (statesOf ws n) t → SomeCovers (settled ws n) (labelOf t)
-state-covered ws n t (s, member, over) =
-    let from = Memᴰ·of-map stateOf (settled ws n) member in
-    let slack = covers-slack (stateOf (from .0)) t (subst (λ (z : State). T (covers z t)) (sym (from .2)) over) in
-    (from .0, from .1, record { here = slack .same; clock = omega (arith, slack .clock); spell = omega (arith, slack .spell); shift = omega (arith, slack .shift) })
-
 module _ (map : List ℕ) (run : Run) (ok : Accepted map run) {ws hs ss fs : List ℕ} {n : ℕ} (U : Underway map run ws hs ss fs n) where
   -- no candidate is left
-  pub ends-without : (r : ℕ) → LeastKey (tripIn map run) ws n r → noKey ≤ keyAt (tripIn map run) ws r → Ended (tripIn map run) none (statesOf ws n) (parentsOf ws n)
+  pub ends-without : (r : ℕ) → LeastKey (tripIn map run) ws n r → noKey ≤ keyAt (tripIn map run) ws r → Ended (tripIn map run) none (settled ws n) (parentsOf ws n)
   ends-without r leads shut =
-      exhausted (tripIn map run) (run-sound map run ok) (statesOf ws n) (cursorsOf ws n) (parentsOf ws n) (U .loop) (all-shut map run ok ws n (U .ready) r leads shut)
+      exhausted (tripIn map run) (run-sound map run ok) (settled ws n) (cursorsOf ws n) (parentsOf ws n) (U .loop) (all-shut map run ok ws n (U .ready) r leads shut)
 
-  module _ (r : ℕ) (c : State) (won : Chosen map run ws n r c) (new : Covered covers (statesOf ws n) c → ⊥) where
-    loop-new : ¬ Covered covers (statesOf ws n) (candidateOf (tripIn map run) (statesOf ws n) (cursorsOf ws n) (r - 1))
-    loop-new = subst (λ (z : State). ¬ Covered covers (statesOf ws n) z) (sym (loop-candidate map run U r c won)) new
+  module _ (r : ℕ) (c : State) (won : Chosen map run ws n r c) (new : Covered covers (settled ws n) c → ⊥) where
+    loop-new : ¬ Covered covers (settled ws n) (candidateOf (tripIn map run) (settled ws n) (cursorsOf ws n) (r - 1))
+    loop-new = subst (λ (z : State). ¬ Covered covers (settled ws n) z) (sym (loop-candidate map run U r c won)) new
 
     -- one more label than these
     pub more-labels : n < labelCount (tripIn map run)
     more-labels =
-        omega (arith, states-length (tripIn map run) ws n, turn-full (tripIn map run) (run-sound map run ok) (statesOf ws n) (cursorsOf ws n) (parentsOf ws n) (U .loop) (r - 1) (won .winner) loop-new)
+        omega (arith, states-length (tripIn map run) ws n, turn-full (tripIn map run) (run-sound map run ok) (settled ws n) (cursorsOf ws n) (parentsOf ws n) (U .loop) (r - 1) (won .winner) loop-new)
 
     -- at target: the candidate is the answer, and the last label
-    pub ends-found : T (atTarget (tripIn map run) c) → (ws₁ hs′ ss′ fs′ : List ℕ) (u : ℕ) → LabelAdded ws ws₁ hs′ ss′ fs′ n (labelOf c) r u
-        → Ended (tripIn map run) (some c) (statesOf ws₁ (n + 1)) (parentsOf ws₁ (n + 1))
+    pub ends-found : T (atTarget (tripIn map run) c) → (ws₁ hs′ ss′ fs′ : List ℕ) (u : ℕ) → LabelAdded ws ws₁ hs′ ss′ fs′ n c r u
+        → Ended (tripIn map run) (some c) (settled ws₁ (n + 1)) (parentsOf ws₁ (n + 1))
     ends-found home ws₁ hs′ ss′ fs′ u A =
         let back : r - 1 + 1 ≡ r = omega (arith, won .low) in
         rw (added-states ws ws₁ ws₁ (A .added) (only-refl ws₁), added-parents ws ws₁ ws₁ (A .added) (only-refl ws₁))
-        (subst₂ (λ (z : State) (p : ℕ). Ended (tripIn map run) (some z) (statesOf ws n ++ z ∷ []) (parentsOf ws n ++ p ∷ [])) (loop-candidate map run U r c won) back
-        (turn-found (tripIn map run) (run-sound map run ok) (statesOf ws n) (cursorsOf ws n) (parentsOf ws n) (U .loop) (r - 1) (won .winner) loop-new
+        (subst₂ (λ (z : State) (p : ℕ). Ended (tripIn map run) (some z) (settled ws n ++ z ∷ []) (parentsOf ws n ++ p ∷ [])) (loop-candidate map run U r c won) back
+        (turn-found (tripIn map run) (run-sound map run ok) (settled ws n) (cursorsOf ws n) (parentsOf ws n) (U .loop) (r - 1) (won .winner) loop-new
         (subst (λ (z : State). T (atTarget (tripIn map run) z)) (sym (loop-candidate map run U r c won)) home)))

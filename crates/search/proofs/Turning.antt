@@ -8,22 +8,22 @@ use native.Mathlib.Decide.{decLe}
 use lib.Dec.{T}
 use lib.ListN.{length, set}
 use Rattle.roadmap.specs.Format.{junctionCount}
-use Rattle.moves.specs.declared.State.{State}
+use Rattle.states.specs.declared.State.{State}
 use Rattle.moves.specs.declared.Run.{Run}
 use Rattle.moves.specs.Trip.{Trip}
 use Rattle.moves.specs.Runs.{Accepted, InRange, tripIn}
 use Rattle.moves.proofs.Rising.{SoundTrip}
 use Rattle.theory.specs.States.{Covered}
 use Rattle.journeys.specs.Journeys.{atTarget}
-use Rattle.journeys.specs.Ranked.{covers}
+use Rattle.states.specs.States.{covers}
 use Rattle.journeys.proofs.Laws.{laws}
-use Rattle.labels.specs.declared.Label.{Label}
-use Rattle.labels.specs.LabelWords.{stride, cursorField, at, labelAt, cursorOf, winnerOf}
+use Rattle.states.specs.LabelSpace.{labelWords}
+use Rattle.labels.specs.LabelWords.{cursorField, at, labelAt, cursorOf, winnerOf, settled}
 use Rattle.labels.specs.Lists.{LabelAdded}
 use Rattle.labels.proofs.LabelWords.{kept-field, kept-labels, same-label}
 use Rattle.labels.proofs.Lists.{lists-same}
 use Rattle.candidates.specs.declared.Bound.{Bound}
-use Rattle.candidates.specs.Candidates.{stateOf, labelOf, statesOf, resultAt, Cursor}
+use Rattle.candidates.specs.Candidates.{resultAt, Cursor}
 use Rattle.candidates.specs.Next.{NextIs}
 use Rattle.winners.specs.Keys.{keyAt, Sound, Ready}
 use Rattle.winners.specs.Mending.{Advanced, Mended}
@@ -31,7 +31,7 @@ use Rattle.winners.proofs.Keys.{result-range, only-labels, key-kept}
 use Rattle.winners.proofs.Steps.{advanced-labels, key-added}
 use Rattle.settling.specs.Settling.{stateAt, candidateOf, Searching, Winner}
 use Rattle.settling.proofs.Pending.{covered-wider}
-use Rattle.settling.proofs.Turns.{turn-covered, settled, settled-winner}
+use Rattle.settling.proofs.Turns.{turn-covered, turn-settled, settled-winner}
 use Rattle.search.specs.Underway.{cursorsOf, parentsOf, Underway, Chosen, Onward}
 use Rattle.search.proofs.Columns.{state-is, candidate-is, advanced-states, advanced-parents, advanced-cursors, added-states, added-cursors, added-parents}
 
@@ -48,21 +48,17 @@ next-wider trip L c s bound v next =
 pub onward-as : {map : List ℕ} {run : Run} {k k′ : ℕ} {ws hs ss fs : List ℕ} {n : ℕ} → k ≡ k′ → Onward map run k ws hs ss fs n → Onward map run k′ ws hs ss fs n
 onward-as {map} {run} {ws = ws} e O = record { underway = O .underway; higher = subst (λ (k : ℕ). k < keyAt (tripIn map run) ws (winnerOf ws 1)) e (O .higher) }
 
--- the label that came in, told otherwise
-pub added-as : {ws ws₁ hs ss fs : List ℕ} {n r u : ℕ} {l m : Label} → l ≡ m → LabelAdded ws ws₁ hs ss fs n l r u → LabelAdded ws ws₁ hs ss fs n m r u
-added-as {ws} {ws₁} {hs} {ss} {fs} {n} {r} {u} e A = subst (λ (l : Label). LabelAdded ws ws₁ hs ss fs n l r u) e A
-
 module _ (map : List ℕ) (run : Run) {ws hs ss fs : List ℕ} {n : ℕ} (U : Underway map run ws hs ss fs n) (r : ℕ) (c : State) (won : Chosen map run ws n r c) where
   -- the loop's candidate is c, and its label the one in the words
-  pub loop-candidate : candidateOf (tripIn map run) (statesOf ws n) (cursorsOf ws n) (r - 1) ≡ c
+  pub loop-candidate : candidateOf (tripIn map run) (settled ws n) (cursorsOf ws n) (r - 1) ≡ c
   loop-candidate = candidate-is (tripIn map run) ws n r (won .low) (won .high) ∙ sym (won .is)
 
-  pub loop-state : stateAt (tripIn map run) (statesOf ws n) (r - 1) ≡ stateOf (labelAt ws r)
+  pub loop-state : stateAt (tripIn map run) (settled ws n) (r - 1) ≡ labelAt ws r
   loop-state = state-is (tripIn map run) ws n r (won .low) (won .high)
 
   -- the candidate is covered, and the label's cursor has moved on
-  pub passed-over : (ws′ : List ℕ) (v : ℕ) → Covered covers (statesOf ws n) c
-      → NextIs (tripIn map run) (statesOf ws n) (stateOf (labelAt ws r)) (Bound.Above c) v → Advanced map run ws ws′ n r v → Underway map run ws′ hs ss fs n
+  pub passed-over : (ws′ : List ℕ) (v : ℕ) → Covered covers (settled ws n) c
+      → NextIs (tripIn map run) (settled ws n) (labelAt ws r) (Bound.Above c) v → Advanced map run ws ws′ n r v → Underway map run ws′ hs ss fs n
   passed-over ws′ v cov next A =
       record {
         low = U .low;
@@ -73,35 +69,35 @@ module _ (map : List ℕ) (run : Run) {ws hs ss fs : List ℕ} {n : ℕ} (U : Un
         loop = rw (advanced-states A, advanced-parents A, advanced-cursors A (won .low) (won .high)) turned;
       }
     where
-      turned : Searching (tripIn map run) (statesOf ws n) (set (cursorsOf ws n) (r - 1) v) (parentsOf ws n)
+      turned : Searching (tripIn map run) (settled ws n) (set (cursorsOf ws n) (r - 1) v) (parentsOf ws n)
       turned =
-          turn-covered (tripIn map run) (statesOf ws n) (cursorsOf ws n) (parentsOf ws n) (U .loop) (r - 1) (won .winner) v
-          (subst (λ (z : State). Covered covers (statesOf ws n) z) (sym loop-candidate) cov)
-          (subst₂ (λ (s z : State). NextIs (tripIn map run) (statesOf ws n) s (Bound.Above z) v) (sym loop-state) (sym loop-candidate) next)
+          turn-covered (tripIn map run) (settled ws n) (cursorsOf ws n) (parentsOf ws n) (U .loop) (r - 1) (won .winner) v
+          (subst (λ (z : State). Covered covers (settled ws n) z) (sym loop-candidate) cov)
+          (subst₂ (λ (s z : State). NextIs (tripIn map run) (settled ws n) s (Bound.Above z) v) (sym loop-state) (sym loop-candidate) next)
 
   -- the candidate is not covered and not at target: it is the next label
-  module _ (sound : SoundTrip (tripIn map run)) (new : ¬ Covered covers (statesOf ws n) c) (out : ¬ T (atTarget (tripIn map run) c)) (ws₁ ws′ hs′ ss′ fs′ : List ℕ) (u : ℕ)
-      (next : NextIs (tripIn map run) (statesOf ws n) c Bound.Nothing u) (A : LabelAdded ws ws₁ hs′ ss′ fs′ n (labelOf c) r u)
+  module _ (sound : SoundTrip (tripIn map run)) (new : ¬ Covered covers (settled ws n) c) (out : ¬ T (atTarget (tripIn map run) c)) (ws₁ ws′ hs′ ss′ fs′ : List ℕ) (u : ℕ)
+      (next : NextIs (tripIn map run) (settled ws n) c Bound.Nothing u) (A : LabelAdded ws ws₁ hs′ ss′ fs′ n c r u)
       (M : Mended map run ws₁ ws′ (n + 1)) where
     abbrev cand : State
-    cand = candidateOf (tripIn map run) (statesOf ws n) (cursorsOf ws n) (r - 1)
+    cand = candidateOf (tripIn map run) (settled ws n) (cursorsOf ws n) (r - 1)
 
-    loop-next : NextIs (tripIn map run) (statesOf ws n ++ cand ∷ []) cand Bound.Nothing u
+    loop-next : NextIs (tripIn map run) (settled ws n ++ cand ∷ []) cand Bound.Nothing u
     loop-next =
-        subst (λ (z : State). NextIs (tripIn map run) (statesOf ws n ++ z ∷ []) z Bound.Nothing u) (sym loop-candidate) (next-wider (tripIn map run) (statesOf ws n) c c Bound.Nothing u next)
+        subst (λ (z : State). NextIs (tripIn map run) (settled ws n ++ z ∷ []) z Bound.Nothing u) (sym loop-candidate) (next-wider (tripIn map run) (settled ws n) c c Bound.Nothing u next)
 
-    states : statesOf ws′ (n + 1) ≡ statesOf ws n ++ c ∷ []
+    states : settled ws′ (n + 1) ≡ settled ws n ++ c ∷ []
     states = added-states ws ws₁ ws′ (A .added) (M .only)
 
     cursors : cursorsOf ws′ (n + 1) ≡ cursorsOf ws n ++ u ∷ []
     cursors = added-cursors ws ws₁ ws′ (A .added) (M .only)
 
-    turned : Searching (tripIn map run) (statesOf ws n ++ c ∷ []) (cursorsOf ws n ++ u ∷ []) (parentsOf ws n ++ r ∷ [])
+    turned : Searching (tripIn map run) (settled ws n ++ c ∷ []) (cursorsOf ws n ++ u ∷ []) (parentsOf ws n ++ r ∷ [])
     turned =
         let back : r - 1 + 1 ≡ r = omega (arith, won .low) in
-        subst₂ (λ (z : State) (p : ℕ). Searching (tripIn map run) (statesOf ws n ++ z ∷ []) (cursorsOf ws n ++ u ∷ []) (parentsOf ws n ++ p ∷ [])) loop-candidate back
-        (settled (tripIn map run) sound (statesOf ws n) (cursorsOf ws n) (parentsOf ws n) (U .loop) (r - 1) (won .winner) u loop-next
-        (subst (λ (z : State). ¬ Covered covers (statesOf ws n) z) (sym loop-candidate) new)
+        subst₂ (λ (z : State) (p : ℕ). Searching (tripIn map run) (settled ws n ++ z ∷ []) (cursorsOf ws n ++ u ∷ []) (parentsOf ws n ++ p ∷ [])) loop-candidate back
+        (turn-settled (tripIn map run) sound (settled ws n) (cursorsOf ws n) (parentsOf ws n) (U .loop) (r - 1) (won .winner) u loop-next
+        (subst (λ (z : State). ¬ Covered covers (settled ws n) z) (sym loop-candidate) new)
         (subst (λ (z : State). ¬ T (atTarget (tripIn map run) z)) (sym loop-candidate) out))
 
     pub settles : length hs′ ≡ length hs → Underway map run ws′ hs′ ss′ fs′ (n + 1)
@@ -116,8 +112,8 @@ module _ (map : List ℕ) (run : Run) {ws hs ss fs : List ℕ} {n : ℕ} (U : Un
         }
 
     -- which covers it now
-    pub settled-now : Covered covers (statesOf ws′ (n + 1)) c
-    settled-now = rw states (c, Memᴰ·append-right (statesOf ws n) (List·Memᴰ·head refl), laws (tripIn map run) sound .cov-refl c)
+    pub settled-now : Covered covers (settled ws′ (n + 1)) c
+    settled-now = rw states (c, Memᴰ·append-right (settled ws n) (List·Memᴰ·head refl), laws (tripIn map run) sound .cov-refl c)
 
     same-cursor : cursorOf ws′ r ≡ cursorOf ws r
     same-cursor =
@@ -135,10 +131,10 @@ module _ (map : List ℕ) (run : Run) {ws hs ss fs : List ℕ} {n : ℕ} (U : Un
           low = won .low;
           high = omega (arith, won .high);
           has = rw same-cursor (won .has);
-          is = subst₂ (λ (l : Label) (k : ℕ). c ≡ resultAt (tripIn map run) (stateOf l) k) (sym label-kept) (sym same-cursor) (won .is);
+          is = subst₂ (λ (l : State) (k : ℕ). c ≡ resultAt (tripIn map run) l k) (sym label-kept) (sym same-cursor) (won .is);
           winner = rw (states, cursors)
-              (subst (λ (z : State). Winner (tripIn map run) (statesOf ws n ++ z ∷ []) (cursorsOf ws n ++ u ∷ []) (r - 1)) loop-candidate
-              (settled-winner (tripIn map run) sound (statesOf ws n) (cursorsOf ws n) (parentsOf ws n) (U .loop) (r - 1) (won .winner) u loop-next));
+              (subst (λ (z : State). Winner (tripIn map run) (settled ws n ++ z ∷ []) (cursorsOf ws n ++ u ∷ []) (r - 1)) loop-candidate
+              (settled-winner (tripIn map run) sound (settled ws n) (cursorsOf ws n) (parentsOf ws n) (U .loop) (r - 1) (won .winner) u loop-next));
         }
 
     -- its parent's key is as it was
@@ -149,14 +145,14 @@ module _ (map : List ℕ) (run : Run) {ws hs ss fs : List ℕ} {n : ℕ} (U : Un
   pub chosen-range : Accepted map run → InRange (junctionCount map) (run .order) c
   chosen-range ok =
       let S = U .ready r (won .low) (won .high) in
-      subst (InRange (junctionCount map) (run .order)) (sym (won .is)) (result-range map run ok (stateOf (labelAt ws r)) (cursorOf ws r) (S .range) (S .cursor (won .has)))
+      subst (InRange (junctionCount map) (run .order)) (sym (won .is)) (result-range map run ok (labelAt ws r) (cursorOf ws r) (S .range) (S .cursor (won .has)))
 
   -- once the label is in, all labels are sound
-  pub ready-now : Accepted map run → (ws₁ hs′ ss′ fs′ : List ℕ) (u : ℕ) → n + 1 < 4294967296 → NextIs (tripIn map run) (statesOf ws n) c Bound.Nothing u
-      → LabelAdded ws ws₁ hs′ ss′ fs′ n (labelOf c) r u → Ready map run ws₁ (n + 1)
+  pub ready-now : Accepted map run → (ws₁ hs′ ss′ fs′ : List ℕ) (u : ℕ) → n + 1 < 4294967296 → NextIs (tripIn map run) (settled ws n) c Bound.Nothing u
+      → LabelAdded ws ws₁ hs′ ss′ fs′ n c r u → Ready map run ws₁ (n + 1)
   ready-now ok ws₁ hs′ ss′ fs′ u few next A m low high = go (decLe m n)
     where
-      room : stride * (n + 1) ≤ length ws₁
+      room : labelWords * (n + 1) ≤ length ws₁
       room = A .lists .room
 
       go : Dec (m ≤ n) → Sound map run ws₁ m
@@ -167,14 +163,14 @@ module _ (map : List ℕ) (run : Run) {ws hs ss fs : List ℕ} {n : ℕ} (U : Un
           record {
             room = omega (arith, room);
             small = S .small;
-            range = subst (λ (l : Label). InRange (junctionCount map) (run .order) (stateOf l)) (sym same) (S .range);
-            cursor = subst₂ (λ (l : Label) (x : ℕ). Cursor (tripIn map run) (stateOf l) x) (sym same) (sym cursor-same) (S .cursor);
+            range = subst (λ (l : State). InRange (junctionCount map) (run .order) l) (sym same) (S .range);
+            cursor = subst₂ (λ (l : State) (x : ℕ). Cursor (tripIn map run) l x) (sym same) (sym cursor-same) (S .cursor);
           }
       go (no h) =
           let e : m ≡ n + 1 = omega arith in
           subst (Sound map run ws₁) (sym e) (record {
             room = room;
             small = few;
-            range = subst (λ (l : Label). InRange (junctionCount map) (run .order) (stateOf l)) (sym (A .added .is-label)) (chosen-range ok);
-            cursor = subst₂ (λ (l : Label) (x : ℕ). Cursor (tripIn map run) (stateOf l) x) (sym (A .added .is-label)) (sym (A .added .is-cursor)) (next .names);
+            range = subst (λ (l : State). InRange (junctionCount map) (run .order) l) (sym (A .added .is-label)) (chosen-range ok);
+            cursor = subst₂ (λ (l : State) (x : ℕ). Cursor (tripIn map run) l x) (sym (A .added .is-label)) (sym (A .added .is-cursor)) (next .names);
           })

@@ -8,7 +8,7 @@ use lib.ListN.{length, getD}
 use Rattle.moves.specs.declared.Run.{Run}
 use Rattle.moves.specs.Runs.{tripIn}
 use Rattle.journeys.specs.Journeys.{startIn, atTarget}
-use Rattle.candidates.specs.Candidates.{statesOf}
+use Rattle.labels.specs.LabelWords.{settled}
 use Rattle.settling.specs.Settling.{Ended}
 use Rattle.search.specs.Underway.{parentsOf, Underway}
 
@@ -19,4 +19,4 @@ AllAre ws value = (j : ℕ) → j < length ws → getD ws j 0 ≡ value
 -- the start is label 1: the search is under way, or has ended where the start is at target
 pub record Begun (map : List ℕ) (run : Run) (ws hs ss fs : List ℕ) : Type 0 where
   pub away : (T (atTarget (tripIn map run) (startIn (tripIn map run))) → ⊥) → Underway map run ws hs ss fs 1
-  pub home : T (atTarget (tripIn map run) (startIn (tripIn map run))) → Ended (tripIn map run) (some (startIn (tripIn map run))) (statesOf ws 1) (parentsOf ws 1)
+  pub home : T (atTarget (tripIn map run) (startIn (tripIn map run))) → Ended (tripIn map run) (some (startIn (tripIn map run))) (settled ws 1) (parentsOf ws 1)

@@ -4,11 +4,11 @@ use mathlib.Core.Option.{none, some}
 use Prim.Native.Nat.{ℕ, _+_, _*_, _≤_, _<_}
 use lib.ListN.{length}
 use Rattle.moves.specs.declared.Run.{Run}
-use Rattle.moves.specs.declared.State.{State}
+use Rattle.states.specs.declared.State.{State}
 use Rattle.moves.specs.Runs.{tripIn}
 use Rattle.journeys.specs.Labels.{labelCount}
-use Rattle.labels.specs.LabelWords.{stride}
-use Rattle.candidates.specs.Candidates.{statesOf}
+use Rattle.states.specs.LabelSpace.{labelWords}
+use Rattle.labels.specs.LabelWords.{settled}
 use Rattle.settling.specs.Settling.{Ended}
 use Rattle.search.specs.declared.Turn.{Turn}
 use Rattle.search.specs.declared.Outcome.{Outcome}
@@ -16,13 +16,13 @@ use Rattle.search.specs.Underway.{parentsOf, Onward}
 
 -- labels 1 to n stand in the words, and are all: there is no journey
 abbrev pub EndsWithout : List ℕ → Run → List ℕ → ℕ → Type 0
-EndsWithout map run ws n = Ended (tripIn map run) none (statesOf ws n) (parentsOf ws n)
+EndsWithout map run ws n = Ended (tripIn map run) none (settled ws n) (parentsOf ws n)
 
 -- labels 1 to n stand in the words, and are all: the last is the answer
 pub record EndsFound (map : List ℕ) (run : Run) (ws : List ℕ) (n : ℕ) : Type 0 where
   pub answer : State
-  pub room : stride * n ≤ length ws
-  pub ended : Ended (tripIn map run) (some answer) (statesOf ws n) (parentsOf ws n)
+  pub room : labelWords * n ≤ length ws
+  pub ended : Ended (tripIn map run) (some answer) (settled ws n) (parentsOf ws n)
 
 -- from n labels, where so many fit: the search goes on above the key given, or ends
 pub data TurnSays (map : List ℕ) (run : Run) (fit key n : ℕ) (ws hs ss fs : List ℕ) : Turn → Type 0 where

@@ -5,12 +5,12 @@ use Prim.Native.Nat.{ℕ, _-_, _≤_, _<_}
 use lib.ListN.{length}
 use Rattle.roadmap.specs.Format.{junctionCount}
 use Rattle.moves.specs.declared.Run.{Run}
-use Rattle.moves.specs.declared.State.{State}
+use Rattle.states.specs.declared.State.{State}
 use Rattle.moves.specs.Runs.{tripIn}
-use Rattle.labels.specs.LabelWords.{cursorField, parentField, labelAt, cursorOf, winnerOf, column}
+use Rattle.labels.specs.LabelWords.{cursorField, parentField, labelAt, cursorOf, winnerOf, column, settled}
 use Rattle.labels.specs.Lists.{Lists}
 use Rattle.labels.specs.Tree.{Tree}
-use Rattle.candidates.specs.Candidates.{stateOf, statesOf, resultAt}
+use Rattle.candidates.specs.Candidates.{resultAt}
 use Rattle.winners.specs.Keys.{keyAt, Ready}
 use Rattle.settling.specs.Settling.{Searching, Winner}
 
@@ -30,15 +30,15 @@ pub record Underway (map : List ℕ) (run : Run) (ws hs ss fs : List ℕ) (n : �
   pub ready : Ready map run ws n
   pub tree : Tree (keyAt (tripIn map run) ws) ws n
   -- labels, cursors and parents are those of the loop
-  pub loop : Searching (tripIn map run) (statesOf ws n) (cursorsOf ws n) (parentsOf ws n)
+  pub loop : Searching (tripIn map run) (settled ws n) (cursorsOf ws n) (parentsOf ws n)
 
 -- label r has the lowest-ranked candidate, c, and is the first that has it
 pub record Chosen (map : List ℕ) (run : Run) (ws : List ℕ) (n r : ℕ) (c : State) : Type 0 where
   pub low : 1 ≤ r
   pub high : r ≤ n
   pub has : 1 ≤ cursorOf ws r
-  pub is : c ≡ resultAt (tripIn map run) (stateOf (labelAt ws r)) (cursorOf ws r)
-  pub winner : Winner (tripIn map run) (statesOf ws n) (cursorsOf ws n) (r - 1)
+  pub is : c ≡ resultAt (tripIn map run) (labelAt ws r) (cursorOf ws r)
+  pub winner : Winner (tripIn map run) (settled ws n) (cursorsOf ws n) (r - 1)
 
 -- the search goes on with n labels, and its lowest candidate's key is above the one given
 pub record Onward (map : List ℕ) (run : Run) (key : ℕ) (ws hs ss fs : List ℕ) (n : ℕ) : Type 0 where

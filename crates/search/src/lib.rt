@@ -8,11 +8,11 @@ ghost use Rattle.roadmap.specs.Format.{junctionCount};
 ghost use Rattle.moves.specs.Runs.{Accepted, tripIn};
 ghost use Rattle.theory.specs.States.{Covered};
 ghost use Rattle.journeys.specs.Journeys.{atTarget};
-ghost use Rattle.journeys.specs.Ranked.{covers};
-ghost use Rattle.journeys.specs.Planning.{labelsThatFit};
-ghost use Rattle.labels.specs.LabelWords.{stride, labelAt, cursorOf, winnerOf};
+ghost use Rattle.states.specs.States.{covers};
+ghost use Rattle.states.specs.LabelSpace.{labelWords, mostLabels};
+ghost use Rattle.labels.specs.LabelWords.{labelAt, cursorOf, winnerOf, settled};
 ghost use Rattle.labels.specs.Lists.{Lists, LabelAdded};
-ghost use Rattle.candidates.specs.Candidates.{stateOf, labelOf, statesOf, resultAt};
+ghost use Rattle.candidates.specs.Candidates.{resultAt};
 ghost use Rattle.winners.specs.Keys.{keyAt, Sound};
 ghost use Rattle.winners.specs.Mending.{LeastKey};
 ghost use Rattle.search.specs.Underway.{Underway, Chosen, Onward};
@@ -21,13 +21,9 @@ ghost use Rattle.search.specs.Beginning.{AllAre, Begun};
 ghost use Rattle.search.specs.Searched.{Searched};
 use candidates::Bound;
 use moves::Run;
-use moves::State;
+use states::State;
 
 const LARGEST_WORD: u32 = 4294967295;
-
-const LABEL_WORDS: usize = 8;
-
-const MOST_LABELS: usize = 1000000;
 
 // How a search ends: the last of so many labels is the answer, there are so many labels and no
 // journey, or there are more labels than fit.
@@ -49,9 +45,9 @@ pub enum Turn {
 fn candidate_at(map: &[u8], run: Run, words: &[u32], w: usize) -> State
     requires { ⌜ Accepted (now map) run ⌝ }
     requires { ⌜ (1 ≤ w) × Sound (now map) run (now words) w × (1 ≤ cursorOf (now words) w) ⌝ }
-    ensures { λ r. ⌜ r ≡ resultAt (tripIn (now (map .entry)) run) (stateOf (labelAt (now (words .entry)) w)) (cursorOf (now (words .entry)) w) ⌝ }
+    ensures { λ r. ⌜ r ≡ resultAt (tripIn (now (map .entry)) run) (labelAt (now (words .entry)) w) (cursorOf (now (words .entry)) w) ⌝ }
 {
-    let state = candidates::state_of(labels::read_label(words, w));
+    let state = labels::read_label(words, w);
     let cursor = labels::cursor(words, w);
     candidates::result_at(map, run, state, cursor)
 }
@@ -71,10 +67,10 @@ fn pass_over(
     requires { ⌜ Accepted (now map) run ⌝ }
     requires { ⌜ Underway (now map) run (now words) (now heads) (now spells) (now shifts) n ⌝ }
     requires { ⌜ Chosen (now map) run (now words) n w candidate ⌝ }
-    requires { ⌜ Covered covers (statesOf (now words) n) candidate ⌝ }
+    requires { ⌜ Covered covers (settled (now words) n) candidate ⌝ }
     ensures { λ _. ⌜ Onward (now (map .entry)) run (keyAt (tripIn (now (map .entry)) run) (now (words .entry)) w) (now (words .exit)) (now (heads .entry)) (now (spells .entry)) (now (shifts .entry)) n ⌝ }
 {
-    let state = candidates::state_of(labels::read_label(words, w));
+    let state = labels::read_label(words, w);
     let bound = Bound::Above(candidate);
     let next = candidates::next_candidate(map, run, words, heads, spells, shifts, n, state, bound);
     winners::advance(map, run, words, n, w, next);
@@ -95,8 +91,8 @@ fn settle_label(
     requires { ⌜ Accepted (now map) run ⌝ }
     requires { ⌜ Underway (now map) run (now words) (now heads) (now spells) (now shifts) n ⌝ }
     requires { ⌜ Chosen (now map) run (now words) n w candidate ⌝ }
-    requires { ⌜ (Covered covers (statesOf (now words) n) candidate → ⊥) × (T (atTarget (tripIn (now map) run) candidate) → ⊥) ⌝ }
-    requires { ⌜ (n + 1 < 4294967296) × (stride * (n + 1) ≤ length (now words)) ⌝ }
+    requires { ⌜ (Covered covers (settled (now words) n) candidate → ⊥) × (T (atTarget (tripIn (now map) run) candidate) → ⊥) ⌝ }
+    requires { ⌜ (n + 1 < 4294967296) × (labelWords * (n + 1) ≤ length (now words)) ⌝ }
     ensures { λ _. ⌜ Onward (now (map .entry)) run (keyAt (tripIn (now (map .entry)) run) (now (words .entry)) w) (now (words .exit)) (now (heads .exit)) (now (spells .exit)) (now (shifts .exit)) (n + 1) ⌝ }
 {
     let next = candidates::next_candidate(
@@ -110,8 +106,7 @@ fn settle_label(
         candidate,
         Bound::Nothing,
     );
-    let label = candidates::label_of(candidate);
-    labels::add_label(words, heads, spells, shifts, n, label, w as u32, next);
+    labels::add_label(words, heads, spells, shifts, n, candidate, w as u32, next);
     winners::enter(map, run, words, n);
     pass_over(map, run, words, heads, spells, shifts, n + 1, w, candidate);
 }
@@ -127,11 +122,10 @@ fn settle_last(
     candidate: State,
 )
     requires { ⌜ Lists (now words) (now heads) (now spells) (now shifts) n × (candidate .junction < length (now heads)) ⌝ }
-    requires { ⌜ (n + 1 < 4294967296) × (stride * (n + 1) ≤ length (now words)) × (w ≤ n) ⌝ }
-    ensures { λ _. ⌜ LabelAdded (now (words .entry)) (now (words .exit)) (now (heads .exit)) (now (spells .exit)) (now (shifts .exit)) n (labelOf candidate) w 0 ⌝ }
+    requires { ⌜ (n + 1 < 4294967296) × (labelWords * (n + 1) ≤ length (now words)) × (w ≤ n) ⌝ }
+    ensures { λ _. ⌜ LabelAdded (now (words .entry)) (now (words .exit)) (now (heads .exit)) (now (spells .exit)) (now (shifts .exit)) n candidate w 0 ⌝ }
 {
-    let label = candidates::label_of(candidate);
-    labels::add_label(words, heads, spells, shifts, n, label, w as u32, 0);
+    labels::add_label(words, heads, spells, shifts, n, candidate, w as u32, 0);
 }
 
 // Label w's candidate is covered by none: it is the next label, if one more fits.
@@ -150,8 +144,8 @@ fn settle(
     requires { ⌜ Accepted (now map) run ⌝ }
     requires { ⌜ Underway (now map) run (now words) (now heads) (now spells) (now shifts) n ⌝ }
     requires { ⌜ Chosen (now map) run (now words) n w candidate ⌝ }
-    requires { ⌜ (Covered covers (statesOf (now words) n) candidate → ⊥) ⌝ }
-    requires { ⌜ (n ≤ fit) × (fit ≤ 1000000) × (stride * fit ≤ length (now words)) ⌝ }
+    requires { ⌜ (Covered covers (settled (now words) n) candidate → ⊥) ⌝ }
+    requires { ⌜ (n ≤ fit) × (fit ≤ mostLabels) × (labelWords * fit ≤ length (now words)) ⌝ }
     ensures { λ r. ⌜ TurnSays (now (map .entry)) run fit (keyAt (tripIn (now (map .entry)) run) (now (words .entry)) w) n (now (words .exit)) (now (heads .exit)) (now (spells .exit)) (now (shifts .exit)) r ⌝ }
 {
     if n == fit {
@@ -180,12 +174,11 @@ fn offer(
     requires { ⌜ Accepted (now map) run ⌝ }
     requires { ⌜ Underway (now map) run (now words) (now heads) (now spells) (now shifts) n ⌝ }
     requires { ⌜ (1 ≤ w) × LeastKey (tripIn (now map) run) (now words) n w × (1 ≤ cursorOf (now words) w) ⌝ }
-    requires { ⌜ (n ≤ fit) × (fit ≤ 1000000) × (stride * fit ≤ length (now words)) ⌝ }
+    requires { ⌜ (n ≤ fit) × (fit ≤ mostLabels) × (labelWords * fit ≤ length (now words)) ⌝ }
     ensures { λ r. ⌜ TurnSays (now (map .entry)) run fit (keyAt (tripIn (now (map .entry)) run) (now (words .entry)) w) n (now (words .exit)) (now (heads .exit)) (now (spells .exit)) (now (shifts .exit)) r ⌝ }
 {
     let candidate = candidate_at(map, run, words, w);
-    let label = candidates::label_of(candidate);
-    if labels::covered(words, heads, spells, shifts, n, label) {
+    if labels::covered(words, heads, spells, shifts, n, candidate) {
         pass_over(map, run, words, heads, spells, shifts, n, w, candidate);
         return Turn::Goes(n);
     }
@@ -205,7 +198,7 @@ fn take_turn(
 ) -> Turn
     requires { ⌜ Accepted (now map) run ⌝ }
     requires { ⌜ Underway (now map) run (now words) (now heads) (now spells) (now shifts) n ⌝ }
-    requires { ⌜ (n ≤ fit) × (fit ≤ 1000000) × (stride * fit ≤ length (now words)) ⌝ }
+    requires { ⌜ (n ≤ fit) × (fit ≤ mostLabels) × (labelWords * fit ≤ length (now words)) ⌝ }
     ensures { λ r. ⌜ TurnSays (now (map .entry)) run fit (keyAt (tripIn (now (map .entry)) run) (now (words .entry)) (winnerOf (now (words .entry)) 1)) n (now (words .exit)) (now (heads .exit)) (now (spells .exit)) (now (shifts .exit)) r ⌝ }
 {
     let w = winners::leading(words, n);
@@ -230,7 +223,7 @@ fn settle_all(
 ) -> Outcome
     requires { ⌜ Accepted (now map) run ⌝ }
     requires { ⌜ Underway (now map) run (now words) (now heads) (now spells) (now shifts) 1 ⌝ }
-    requires { ⌜ (1 ≤ fit) × (fit ≤ 1000000) × (stride * fit ≤ length (now words)) ⌝ }
+    requires { ⌜ (1 ≤ fit) × (fit ≤ mostLabels) × (labelWords * fit ≤ length (now words)) ⌝ }
     ensures { λ r. ⌜ OutcomeSays (now (map .entry)) run fit (now (words .exit)) r ⌝ }
 {
     let mut n: usize = 1;
@@ -280,11 +273,11 @@ fn begin(
 )
     requires { ⌜ Accepted (now map) run ⌝ }
     requires { ⌜ Lists (now words) (now heads) (now spells) (now shifts) 0 ⌝ }
-    requires { ⌜ (junctionCount (now map) < length (now heads)) × (stride ≤ length (now words)) ⌝ }
+    requires { ⌜ (junctionCount (now map) < length (now heads)) × (labelWords ≤ length (now words)) ⌝ }
     ensures { λ _. ⌜ Begun (now (map .entry)) run (now (words .exit)) (now (heads .exit)) (now (spells .exit)) (now (shifts .exit)) ⌝ }
 {
     let order = run.order;
-    let start = moves::start_of(order);
+    let start = states::start_of(order);
     let next = candidates::next_candidate(
         map,
         run,
@@ -296,8 +289,7 @@ fn begin(
         start,
         Bound::Nothing,
     );
-    let label = candidates::label_of(start);
-    labels::add_label(words, heads, spells, shifts, 0, label, 0, next);
+    labels::add_label(words, heads, spells, shifts, 0, start, 0, next);
     winners::enter(map, run, words, 0);
 }
 
@@ -305,7 +297,7 @@ fn begin(
 // local arrays, one word a junction.
 fn search_labels(map: &[u8], run: Run, words: &mut [u32], fit: usize) -> Outcome
     requires { ⌜ Accepted (now map) run ⌝ }
-    requires { ⌜ (1 ≤ fit) × (fit ≤ 1000000) × (stride * fit ≤ length (now words)) ⌝ }
+    requires { ⌜ (1 ≤ fit) × (fit ≤ mostLabels) × (labelWords * fit ≤ length (now words)) ⌝ }
     ensures { λ r. ⌜ OutcomeSays (now (map .entry)) run fit (now (words .exit)) r ⌝ }
 {
     let mut heads = [0u32; 65536];
@@ -319,24 +311,14 @@ fn search_labels(map: &[u8], run: Run, words: &mut [u32], fit: usize) -> Outcome
     settle_all(map, run, words, &mut heads, &mut spells, &mut shifts, fit)
 }
 
-pub fn labels_that_fit(words: usize) -> usize
-    ensures { λ r. ⌜ r ≡ labelsThatFit words ⌝ }
-{
-    let whole = words / LABEL_WORDS;
-    if whole < MOST_LABELS {
-        return whole;
-    }
-    MOST_LABELS
-}
-
 // The search of an accepted run in lent words: only the labels that fit are touched.
 pub fn search(map: &[u8], run: Run, words: &mut [u32]) -> Outcome
     requires { ⌜ Accepted (now map) run ⌝ }
     ensures { λ r. ⌜ Searched (now (map .entry)) run (now (words .entry)) (now (words .exit)) r ⌝ }
 {
-    let fit = labels_that_fit(words.len());
+    let fit = states::labels_that_fit(words.len());
     if fit == 0 {
         return Outcome::Full;
     }
-    search_labels(map, run, &mut words[0..LABEL_WORDS * fit], fit)
+    search_labels(map, run, &mut words[0..State::LABEL_WORDS * fit], fit)
 }

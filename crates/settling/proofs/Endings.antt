@@ -7,7 +7,7 @@ use Prim.Native.Nat.{ℕ, _+_, _<_}
 use native.Mathlib.Omega.{arith}
 use lib.Dec.{T, eqb→eq}
 use lib.ListN.{length, getD, length-append}
-use Rattle.moves.specs.declared.State.{State}
+use Rattle.states.specs.declared.State.{State}
 use Rattle.moves.specs.Trip.{Trip}
 use Rattle.moves.proofs.Rising.{SoundTrip}
 use Rattle.theory.specs.States.{Covered}
@@ -16,9 +16,9 @@ use Rattle.theory.proofs.Lists.{at-mem}
 use Rattle.theory.proofs.Sorting.{le-self}
 use Rattle.theory.proofs.Settling.{lowest-settled}
 use Rattle.journeys.specs.Journeys.{startIn, atTarget, succs}
-use Rattle.journeys.specs.Ranked.{sameState, covers}
+use Rattle.states.specs.States.{sameState, covers}
 use Rattle.journeys.specs.Labels.{answerIn, labelsIn, labelCount, label, parentIn}
-use Rattle.journeys.proofs.Ranked.{rank-order, same-decides}
+use Rattle.states.proofs.Compared.{rank-order, same-decides}
 use Rattle.journeys.proofs.Laws.{laws}
 use Rattle.journeys.proofs.Labels.{home-answer, home-labels}
 use Rattle.journeys.proofs.Endings.{SettledIn, parent-among, search-found, search-without, search-full}

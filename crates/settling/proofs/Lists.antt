@@ -8,7 +8,7 @@ use lib.Dec.{T-not, ltb, ltb→lt, nltb→le, eqb, eqb→eq, eqb-refl}
 use lib.ListN.{length, getD, set, length-append, List·getD-append}
 use lib.Seq.{getD-at, getD-set-same, getD-set-other}
 use Rattle.booleans.proofs.Tests.{T-cases}
-use Rattle.moves.specs.declared.State.{State}
+use Rattle.states.specs.declared.State.{State}
 use Rattle.moves.specs.Trip.{Trip}
 use Rattle.journeys.specs.Journeys.{startIn}
 use Rattle.candidates.specs.Candidates.{resultAt}

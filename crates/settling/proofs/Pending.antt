@@ -7,14 +7,14 @@ use mathlib.Core.Logic.{⊎-elim}
 use Prim.Native.Nat.{ℕ, _≤_}
 use lib.Dec.{T}
 use Rattle.booleans.proofs.Tests.{T-cases}
-use Rattle.moves.specs.declared.State.{State}
+use Rattle.states.specs.declared.State.{State}
 use Rattle.moves.specs.Trip.{Trip}
 use Rattle.moves.proofs.Rising.{SoundTrip}
 use Rattle.theory.specs.States.{Covered}
 use Rattle.theory.proofs.Sorting.{le-of-not}
 use Rattle.journeys.specs.Journeys.{succs}
-use Rattle.journeys.specs.Ranked.{covers, ranksNoHigher}
-use Rattle.journeys.proofs.Ranked.{rank-order}
+use Rattle.states.specs.States.{covers, ranksNoHigher}
+use Rattle.states.proofs.Compared.{rank-order}
 use Rattle.journeys.proofs.Journeys.{succs-in}
 use Rattle.journeys.proofs.Laws.{laws}
 use Rattle.candidates.specs.declared.Bound.{Bound}

@@ -8,10 +8,10 @@ use native.Mathlib.Omega.{arith}
 use lib.Dec.{ltb, ltb→lt, nltb→le}
 use lib.ListN.{length, getD, set}
 use Rattle.booleans.proofs.Tests.{T-cases}
-use Rattle.moves.specs.declared.State.{State}
+use Rattle.states.specs.declared.State.{State}
 use Rattle.moves.specs.Trip.{Trip}
 use Rattle.theory.proofs.Sorting.{le-of-not, never-self}
-use Rattle.journeys.proofs.Ranked.{rank-order}
+use Rattle.states.proofs.Compared.{rank-order}
 use Rattle.candidates.specs.declared.Bound.{Bound}
 use Rattle.candidates.specs.Candidates.{resultAt}
 use Rattle.candidates.specs.Next.{NextIs}

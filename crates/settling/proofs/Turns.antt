@@ -7,7 +7,7 @@ use Prim.Native.Nat.{ℕ, zero, suc, _+_, _≤_, _<_}
 use native.Mathlib.Omega.{arith}
 use lib.Dec.{T}
 use lib.ListN.{length, getD, set, length-append, length-set}
-use Rattle.moves.specs.declared.State.{State}
+use Rattle.states.specs.declared.State.{State}
 use Rattle.moves.specs.Trip.{Trip}
 use Rattle.moves.proofs.Rising.{SoundTrip}
 use Rattle.theory.specs.Lists.{sorted-nil, sorted-cons}
@@ -15,8 +15,8 @@ use Rattle.theory.specs.States.{Covered}
 use Rattle.theory.proofs.Sorting.{le-self}
 use Rattle.theory.proofs.Dominance.{start-undominated}
 use Rattle.journeys.specs.Journeys.{startIn, atTarget}
-use Rattle.journeys.specs.Ranked.{covers, ranksNoHigher}
-use Rattle.journeys.proofs.Ranked.{rank-order, same-decides}
+use Rattle.states.specs.States.{covers, ranksNoHigher}
+use Rattle.states.proofs.Compared.{rank-order, same-decides}
 use Rattle.journeys.proofs.Laws.{laws}
 use Rattle.journeys.proofs.Labels.{TopIn}
 use Rattle.journeys.proofs.Endings.{LowestIn}
@@ -110,8 +110,8 @@ module _ (trip : Trip) (sound : SoundTrip trip) (L : List State) (C P : List ℕ
 
   module _ (new : ¬ Covered covers L won) (out : ¬ T (atTarget trip won)) where
     -- the candidate is the next label, and the winner its parent
-    pub settled : Searching trip (L ++ won ∷ []) (C ++ u ∷ []) (P ++ (w + 1) ∷ [])
-    settled =
+    pub turn-settled : Searching trip (L ++ won ∷ []) (C ++ u ∷ []) (P ++ (w + 1) ∷ [])
+    turn-settled =
         record {
           some-label = omega (arith, length-append L (won ∷ []));
           first = state-kept trip L won 0 (s .some-label) ∙ s .first;

@@ -8,7 +8,7 @@ use native.Mathlib.Omega.{arith}
 use lib.Dec.{T}
 use lib.ListN.{length, getD, length-append, List·getD-append}
 use lib.Seq.{getD-at}
-use Rattle.moves.specs.declared.State.{State}
+use Rattle.states.specs.declared.State.{State}
 use Rattle.moves.specs.Trip.{Trip}
 use Rattle.moves.proofs.Rising.{SoundTrip}
 use Rattle.theory.specs.States.{step, Covered}
@@ -18,8 +18,8 @@ use Rattle.theory.proofs.Sorting.{strictly, strict-snoc}
 use Rattle.theory.proofs.Settling.{below-leo, uncovered-new, next-undominated, lowest-settled}
 use Rattle.theory.proofs.Parents.{parent-is, parent-append}
 use Rattle.journeys.specs.Journeys.{startIn, succs}
-use Rattle.journeys.specs.Ranked.{sameState, covers, ranksNoHigher}
-use Rattle.journeys.proofs.Ranked.{rank-order, same-decides}
+use Rattle.states.specs.States.{sameState, covers, ranksNoHigher}
+use Rattle.states.proofs.Compared.{rank-order, same-decides}
 use Rattle.journeys.proofs.Laws.{laws}
 use Rattle.journeys.proofs.Labels.{ReachIn, TopIn}
 use Rattle.journeys.proofs.Endings.{SettledIn, LowestIn}

@@ -7,13 +7,13 @@ use mathlib.Core.Option.{Option}
 use Prim.Native.Nat.{ℕ, _+_, _≤_, _<_}
 use lib.Dec.{T}
 use lib.ListN.{length, getD}
-use Rattle.moves.specs.declared.State.{State}
+use Rattle.states.specs.declared.State.{State}
 use Rattle.moves.specs.Trip.{Trip}
 use Rattle.theory.specs.Lists.{StrictlySorted}
 use Rattle.theory.specs.States.{Covered, Undominated}
 use Rattle.theory.specs.Labels.{parent}
 use Rattle.journeys.specs.Journeys.{startIn, atTarget, succs}
-use Rattle.journeys.specs.Ranked.{sameState, covers, ranksNoHigher}
+use Rattle.states.specs.States.{sameState, covers, ranksNoHigher}
 use Rattle.journeys.specs.Labels.{answerIn, labelsIn, labelCount, label, parentIn}
 use Rattle.candidates.specs.Candidates.{resultAt, Cursor}
 

@@ -8,27 +8,28 @@ use native.Mathlib.Omega.{arith}
 use native.Mathlib.Nat.{le-refl}
 use lib.ListN.{set}
 use Rattle.moves.specs.declared.Run.{Run}
-use Rattle.moves.specs.declared.State.{State}
+use Rattle.states.specs.declared.State.{State}
 use Rattle.moves.specs.Trip.{Trip}
 use Rattle.moves.specs.Runs.{Accepted, tripIn}
-use Rattle.journeys.specs.Ranked.{ranksNoHigher}
+use Rattle.states.specs.States.{ranksNoHigher}
+use Rattle.states.specs.RankNumber.{wordBase, Small, rankNumber}
 use Rattle.labels.specs.LabelWords.{winnerField, at, labelAt, cursorOf}
 use Rattle.labels.specs.Tree.{Better}
-use Rattle.candidates.specs.Candidates.{stateOf, resultAt, rankNumber}
+use Rattle.candidates.specs.Candidates.{resultAt}
 use Rattle.winners.specs.declared.Contender.{Contender}
-use Rattle.winners.specs.Keys.{noKey, keyAt, Sound, OnlyWinners, Small}
+use Rattle.winners.specs.Keys.{noKey, keyAt, Sound, OnlyWinners}
+use Rattle.states.proofs.Ranks.{rank-low, rank-high}
 use Rattle.winners.specs.Mending.{numberOf, contenderKey, Shut, Fit, Stands, Named, Best, Decided}
-use Rattle.winners.proofs.Ranks.{below-none, rank-low, rank-high}
-use Rattle.winners.proofs.Keys.{key-none, key-shut, key-open, result-small, key-kept}
+use Rattle.winners.proofs.Keys.{below-none, key-none, key-shut, key-open, result-small, key-kept}
 
 -- What a contender's key is.
-live-key : (c : Contender) → c .live ≡ true → contenderKey c ≡ rankNumber (c .state) * 4294967296 + c .label
+live-key : (c : Contender) → c .live ≡ true → contenderKey c ≡ rankNumber (c .state) * wordBase + c .label
 live-key c e = rw e
 
 shut-key : (c : Contender) → c .live ≡ false → contenderKey c ≡ noKey
 shut-key c e = rw e
 
-top-of : (live : Bool) (s : State) (k : ℕ) → Small s → k < 4294967296 → numberOf live s k ≤ noKey
+top-of : (live : Bool) (s : State) (k : ℕ) → Small s → k < wordBase → numberOf live s k ≤ noKey
 top-of true s k S h = omega (arith, below-none s S k h)
 top-of false s k S h = le-refl _
 
@@ -79,7 +80,7 @@ module _ (trip : Trip) (ws : List ℕ) (k : ℕ) (c : Contender) (S : Shut k c) 
         };
       }
 
-  pub named-shut : k < 4294967296 → cursorOf ws k ≡ 0 → Named trip ws k c
+  pub named-shut : k < wordBase → cursorOf ws k ≡ 0 → Named trip ws k c
   named-shut small e =
       record {
         is = S .is;
@@ -91,10 +92,10 @@ module _ (trip : Trip) (ws : List ℕ) (k : ℕ) (c : Contender) (S : Shut k c) 
 
 pub named-live :
     (map : List ℕ) (run : Run) (ws : List ℕ) (k cursor : ℕ) (s : State) → Accepted map run → 1 ≤ k → Sound map run ws k → cursor ≡ cursorOf ws k → 1 ≤ cursor
-    → s ≡ resultAt (tripIn map run) (stateOf (labelAt ws k)) cursor → Named (tripIn map run) ws k (record { label = k; live = true; state = s })
+    → s ≡ resultAt (tripIn map run) (labelAt ws k) cursor → Named (tripIn map run) ws k (record { label = k; live = true; state = s })
 named-live map run ws k cursor s accepted low S is-cursor some is =
     let live : 1 ≤ cursorOf ws k = omega arith in
-    let told = is ∙ ap (resultAt (tripIn map run) (stateOf (labelAt ws k))) is-cursor in
+    let told = is ∙ ap (resultAt (tripIn map run) (labelAt ws k)) is-cursor in
     record {
       is = refl;
       stands = record {
@@ -102,7 +103,7 @@ named-live map run ws k cursor s accepted low S is-cursor some is =
           label = S .small;
           state = subst Small (sym told) (result-small map run accepted _ _ (S .range) (S .cursor live));
         };
-        key = key-open (tripIn map run) ws k low live ∙ ap (λ (t : State). rankNumber t * 4294967296 + k) (sym told);
+        key = key-open (tripIn map run) ws k low live ∙ ap (λ (t : State). rankNumber t * wordBase + k) (sym told);
       };
     }
 

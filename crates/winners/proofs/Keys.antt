@@ -1,27 +1,37 @@
 -- The labels' keys: what they tell, and what leaves them as they are. Assumes nothing.
 use mathlib.Core.Path.{_≡_, _∙_, refl, sym, ap, ap₂, subst, subst₂}
 use mathlib.Core.Bool.{true}
-use mathlib.Core.List.{List}
+use mathlib.Core.List.{List, [], _∷_}
 use Prim.Native.Nat.{ℕ, zero, suc, _+_, _*_, _≤_, _<_}
 use native.Mathlib.Omega.{arith}
 use native.Mathlib.Nat.{le-refl}
 use native.Mathlib.Decide.{decLe}
+use lib.Arith.{digits-lt}
+use lib.Dec.{T}
 use lib.ListN.{length}
 use Rattle.roadmap.specs.Format.{junctionCount}
+use Rattle.theory.specs.Numbers.{allBelow}
+use Rattle.theory.proofs.Numbers.{small-end, small-more, small-both, small-above}
 use Rattle.driving.specs.declared.Order.{Order}
+use Rattle.driving.specs.Hours.{highestLimits}
 use Rattle.moves.specs.declared.Run.{Run}
-use Rattle.moves.specs.declared.State.{State}
+use Rattle.states.specs.declared.State.{State}
 use Rattle.moves.specs.Trip.{Trip}
 use Rattle.moves.specs.Runs.{Accepted, InRange, tripIn}
 use Rattle.moves.proofs.Trips.{junctions-in, order-in}
-use Rattle.moves.proofs.Rising.{sound-trip, range-after}
-use Rattle.journeys.specs.Ranked.{ranksNoHigher}
-use Rattle.labels.specs.declared.Label.{Label}
-use Rattle.labels.specs.LabelWords.{junctionField, clockField, spellField, shiftField, previousField, cursorField, at, labelAt, cursorOf, SameLabels}
+use Rattle.moves.proofs.Rising.{sound-trip, range-after, clock-high, figures-high}
+use Rattle.states.specs.States.{figuresOf, ranksNoHigher}
+use Rattle.states.specs.RankNumber.{wordBase, Small, rankNumber, rankTop}
+use Rattle.labels.specs.LabelWords.{previousField, cursorField, at, labelAt, cursorOf, SameLabels}
 use Rattle.labels.proofs.LabelWords.{same-label}
-use Rattle.candidates.specs.Candidates.{stateOf, moveAt, resultAt, Names, Cursor, rankNumber}
-use Rattle.winners.specs.Keys.{noKey, keyFrom, keyAt, Sound, Entrant, Ready, OnlyWinners, Small}
-use Rattle.winners.proofs.Ranks.{below-none, number-low}
+use Rattle.candidates.specs.Candidates.{moveAt, resultAt, Names, Cursor}
+use Rattle.winners.specs.Keys.{noKey, keyFrom, keyAt, Sound, Entrant, Ready, OnlyWinners}
+use Rattle.states.proofs.Ranks.{number-low, rank-top}
+
+-- a rank number with a word after it is below the key of no candidate
+pub below-none : (s : State) → Small s → (k : ℕ) → k < wordBase → rankNumber s * wordBase + k < noKey
+unfolding noKey
+below-none s S k h = digits-lt {m = rankTop} {c = wordBase} (rank-top s S) h
 
 -- What a key is.
 pub key-none : (trip : Trip) (ws : List ℕ) → keyAt trip ws 0 ≡ noKey
@@ -36,30 +46,30 @@ unfolding keyAt
 key-shut trip ws zero e = refl
 key-shut trip ws (suc k) e = from-shut trip _ (suc k) _ e
 
-from-open : (trip : Trip) (s : State) (k cursor : ℕ) → 1 ≤ cursor → keyFrom trip s k cursor ≡ rankNumber (resultAt trip s cursor) * 4294967296 + k
+from-open : (trip : Trip) (s : State) (k cursor : ℕ) → 1 ≤ cursor → keyFrom trip s k cursor ≡ rankNumber (resultAt trip s cursor) * wordBase + k
 from-open trip s k zero low = absurd (omega arith)
 from-open trip s k (suc cursor) low = refl
 
 -- the candidate of label k
 abbrev pub candidate : Trip → List ℕ → ℕ → State
-candidate trip ws k = resultAt trip (stateOf (labelAt ws k)) (cursorOf ws k)
+candidate trip ws k = resultAt trip (labelAt ws k) (cursorOf ws k)
 
-pub key-open : (trip : Trip) (ws : List ℕ) (k : ℕ) → 1 ≤ k → 1 ≤ cursorOf ws k → keyAt trip ws k ≡ rankNumber (candidate trip ws k) * 4294967296 + k
+pub key-open : (trip : Trip) (ws : List ℕ) (k : ℕ) → 1 ≤ k → 1 ≤ cursorOf ws k → keyAt trip ws k ≡ rankNumber (candidate trip ws k) * wordBase + k
 unfolding keyAt
 key-open trip ws zero low live = absurd (omega arith)
 key-open trip ws (suc k) low live = from-open trip _ (suc k) _ live
+
+highest-small : T (allBelow wordBase highestLimits)
+unfolding allBelow
+highest-small = tt
 
 -- A state in range, and one that a cursor names, have figures that are words.
 module _ (map : List ℕ) (run : Run) (accepted : Accepted map run) where
   pub range-small : (s : State) → InRange (junctionCount map) (run .order) s → Small s
   range-small s R =
-      let rules = accepted .ordered .sound-rules in
-      record {
-        clock = omega (arith, R .clock, accepted .ordered .latest-high);
-        spell = omega (arith, R .spell, rules .limits-rise, rules .shift-limit-high);
-        shift = omega (arith, R .shift, rules .shift-limit-high);
-        junction = omega (arith, R .high, accepted .sized .junctions, accepted .sized .few-junctions);
-      }
+      small-both wordBase (figuresOf s) (s .junction ∷ [])
+      (small-more _ _ _ (omega (arith, clock-high _ (run .order) (accepted .ordered) s R)) (small-above wordBase _ highestLimits (figures-high _ (run .order) (accepted .ordered) s R) highest-small))
+      (small-more _ _ _ (omega (arith, R .high, accepted .sized .junctions, accepted .sized .few-junctions)) (small-end wordBase))
 
   pub result-range : (s : State) (cursor : ℕ) → InRange (junctionCount map) (run .order) s → Names (tripIn map run) s cursor → InRange (junctionCount map) (run .order) (resultAt (tripIn map run) s cursor)
   result-range s cursor range named =
@@ -117,25 +127,22 @@ module _ (map : List ℕ) (run : Run) (accepted : Accepted map run) where
 pub same-key : (trip : Trip) (ws ws′ : List ℕ) (k : ℕ) → labelAt ws′ k ≡ labelAt ws k → cursorOf ws′ k ≡ cursorOf ws k → keyAt trip ws′ k ≡ keyAt trip ws k
 unfolding keyAt
 same-key trip ws ws′ zero l c = refl
-same-key trip ws ws′ (suc k) l c = ap₂ (λ (a : Label) (x : ℕ). keyFrom trip (stateOf a) (suc k) x) l c
+same-key trip ws ws′ (suc k) l c = ap₂ (λ (a : State) (x : ℕ). keyFrom trip a (suc k) x) l c
 
 pub same-sound : (map : List ℕ) (run : Run) (ws ws′ : List ℕ) (k : ℕ) → length ws′ ≡ length ws → labelAt ws′ k ≡ labelAt ws k → cursorOf ws′ k ≡ cursorOf ws k → Sound map run ws k → Sound map run ws′ k
 same-sound map run ws ws′ k long l c S =
     record {
       room = rw long (S .room);
       small = S .small;
-      range = subst (λ (a : Label). InRange (junctionCount map) (run .order) (stateOf a)) (sym l) (S .range);
-      cursor = subst₂ (λ (a : Label) (x : ℕ). Cursor (tripIn map run) (stateOf a) x) (sym l) (sym c) (S .cursor);
+      range = subst (λ (a : State). InRange (junctionCount map) (run .order) a) (sym l) (S .range);
+      cursor = subst₂ (λ (a : State) (x : ℕ). Cursor (tripIn map run) a x) (sym l) (sym c) (S .cursor);
     }
 
 -- a store of winners does
 module _ (ws ws′ : List ℕ) (only : OnlyWinners ws ws′) where
   pub only-labels : (n : ℕ) → SameLabels ws ws′ n
   only-labels n = record {
-    junctions = λ k low high. only (at k junctionField) (λ e. omega arith);
-    clocks = λ k low high. only (at k clockField) (λ e. omega arith);
-    spells = λ k low high. only (at k spellField) (λ e. omega arith);
-    shifts = λ k low high. only (at k shiftField) (λ e. omega arith);
+    states = λ f small k low high. only (at k f) (λ e. omega arith);
     previous = λ k low high. only (at k previousField) (λ e. omega arith);
   }
 

@@ -13,12 +13,14 @@ use Rattle.roadmap.specs.Format.{junctionCount}
 use Rattle.moves.specs.declared.Run.{Run}
 use Rattle.moves.specs.Trip.{Trip}
 use Rattle.moves.specs.Runs.{Accepted, InRange, tripIn}
-use Rattle.labels.specs.declared.Label.{Label}
-use Rattle.labels.specs.LabelWords.{stride, junctionField, clockField, spellField, shiftField, previousField, cursorField, winnerField, at, labelAt, cursorOf, winnerOf, settled, SameLabels, Added, WinnerWithin}
+use Rattle.states.specs.declared.State.{State}
+use Rattle.states.specs.RankNumber.{wordBase}
+use Rattle.states.specs.LabelSpace.{labelWords}
+use Rattle.labels.specs.LabelWords.{previousField, cursorField, winnerField, at, labelAt, cursorOf, winnerOf, settled, SameLabels, Added, WinnerWithin}
 use Rattle.labels.specs.Tree.{Tree, TreeBut, Better, Stored, Mending, Entering}
 use Rattle.labels.proofs.LabelWords.{set-same, set-field, set-label, set-labels, kept-field, kept-labels, same-label, settled-same, settled-set}
 use Rattle.labels.proofs.Tree.{under-self, beyond, beside, changed, mend-first, mend-step, mend-end, rekey, rekey-mending, rekey-entering, enter-added, enter-step, enter-stop, enter-end, stored, root-least, root-small}
-use Rattle.candidates.specs.Candidates.{stateOf, Cursor}
+use Rattle.candidates.specs.Candidates.{Cursor}
 use Rattle.winners.specs.declared.Contender.{Contender}
 use Rattle.winners.specs.Keys.{noKey, keyAt, Sound, Ready, OnlyWinners}
 use Rattle.winners.specs.Mending.{Stands, Named, Best, Decided, Carries, Climbed, Mended, Advanced, Enters, Placed, LeastKey}
@@ -41,7 +43,7 @@ record Winner (ws ws′ : List ℕ) (n k v : ℕ) : Type 0 where
   only : OnlyWinners ws ws′
   long : length ws′ ≡ length ws
 
-winner-set : (ws ws′ : List ℕ) (n k v : ℕ) → 1 ≤ k → stride * k ≤ length ws → ws′ ≡ set ws (at k winnerField) v → Winner ws ws′ n k v
+winner-set : (ws ws′ : List ℕ) (n k v : ℕ) → 1 ≤ k → labelWords * k ≤ length ws → ws′ ≡ set ws (at k winnerField) v → Winner ws ws′ n k v
 winner-set ws ws′ n k v low room e =
     subst (λ (l : List ℕ). Winner ws l n k v) (sym e) (record { stores = stored ws n k v low room; only = set-only ws k v; long = length-set ws _ v })
 
@@ -106,7 +108,7 @@ module _ {map : List ℕ} {run : Run} where
     is : cursorOf ws₁ k ≡ cursor
     is = set-same ws k cursorField cursor (omega arith) low (ready k low high .room)
 
-    pub turned-ready : Cursor (tripIn map run) (stateOf (labelAt ws k)) cursor → Ready map run ws₁ n
+    pub turned-ready : Cursor (tripIn map run) (labelAt ws k) cursor → Ready map run ws₁ n
     turned-ready valid m a b = go (ℕ-discrete m k)
       where
         go : Dec (m ≡ k) → Sound map run ws₁ m
@@ -114,8 +116,8 @@ module _ {map : List ℕ} {run : Run} where
         go (yes e) = subst (Sound map run ws₁) (sym e) (record {
           room = rw (length-set ws (at k cursorField) cursor) (ready k low high .room);
           small = ready k low high .small;
-          range = subst (λ (l : Label). InRange (junctionCount map) (run .order) (stateOf l)) (sym (same k low)) (ready k low high .range);
-          cursor = subst₂ (λ (l : Label) (x : ℕ). Cursor (tripIn map run) (stateOf l) x) (sym (same k low)) (sym is) valid;
+          range = subst (λ (l : State). InRange (junctionCount map) (run .order) l) (sym (same k low)) (ready k low high .range);
+          cursor = subst₂ (λ (l : State) (x : ℕ). Cursor (tripIn map run) l x) (sym (same k low)) (sym is) valid;
         })
 
     pub turned-but : Tree (keyAt (tripIn map run) ws) ws n → TreeBut (keyAt (tripIn map run) ws₁) ws₁ n k
@@ -211,7 +213,7 @@ module _ {map : List ℕ} {run : Run} {ws ws′ : List ℕ} {n j : ℕ} {c : Con
   entered-end h = record { ready = E .enters .ready; tree = enter-end (E .enters .entering) h; only = E .only }
 
 -- What a caller knows after a label was added.
-module _ {ws ws′ : List ℕ} {n : ℕ} {label : Label} {parent cursor : ℕ} (A : Added ws ws′ n label parent cursor) where
+module _ {ws ws′ : List ℕ} {n : ℕ} {label : State} {parent cursor : ℕ} (A : Added ws ws′ n label parent cursor) where
   added-label : (m : ℕ) → 1 ≤ m → m ≤ n → labelAt ws′ m ≡ labelAt ws m
   added-label m low high = same-label ws ws′ n (kept-labels ws ws′ n (A .kept)) m low high
 
@@ -229,8 +231,8 @@ module _ {ws ws′ : List ℕ} {n : ℕ} {label : Label} {parent cursor : ℕ} (
   entering trip T = enter-added A (rekey (keyAt trip ws) (keyAt trip ws′) ws n (key-added trip) T)
 
   pub ready-added :
-      (map : List ℕ) (run : Run) → Ready map run ws n → length ws′ ≡ length ws → stride * (n + 1) ≤ length ws → n + 1 < 4294967296
-      → InRange (junctionCount map) (run .order) (stateOf label) → Cursor (tripIn map run) (stateOf label) cursor → Ready map run ws′ (n + 1)
+      (map : List ℕ) (run : Run) → Ready map run ws n → length ws′ ≡ length ws → labelWords * (n + 1) ≤ length ws → n + 1 < wordBase
+      → InRange (junctionCount map) (run .order) label → Cursor (tripIn map run) label cursor → Ready map run ws′ (n + 1)
   ready-added map run R long room small range valid m low high = go (decLe m n)
     where
       go : Dec (m ≤ n) → Sound map run ws′ m
@@ -240,8 +242,8 @@ module _ {ws ws′ : List ℕ} {n : ℕ} {label : Label} {parent cursor : ℕ} (
           subst (Sound map run ws′) (sym e) (record {
             room = rw long room;
             small = small;
-            range = subst (λ (l : Label). InRange (junctionCount map) (run .order) (stateOf l)) (sym (A .is-label)) range;
-            cursor = subst₂ (λ (l : Label) (x : ℕ). Cursor (tripIn map run) (stateOf l) x) (sym (A .is-label)) (sym (A .is-cursor)) valid;
+            range = subst (λ (l : State). InRange (junctionCount map) (run .order) l) (sym (A .is-label)) range;
+            cursor = subst₂ (λ (l : State) (x : ℕ). Cursor (tripIn map run) l x) (sym (A .is-label)) (sym (A .is-cursor)) valid;
           })
 
 -- The root's winner leads.
@@ -261,9 +263,6 @@ none-left map run ws n r accepted R L none m low high = go (decLe (cursorOf ws m
 -- the labels and their links are as they were when a cursor has changed
 pub advanced-labels : {map : List ℕ} {run : Run} {ws ws′ : List ℕ} {n k cursor : ℕ} → Advanced map run ws ws′ n k cursor → SameLabels ws ws′ n
 advanced-labels A = record {
-  junctions = λ m low high. A .others (at m junctionField) (λ e. omega arith) (λ e. omega arith);
-  clocks = λ m low high. A .others (at m clockField) (λ e. omega arith) (λ e. omega arith);
-  spells = λ m low high. A .others (at m spellField) (λ e. omega arith) (λ e. omega arith);
-  shifts = λ m low high. A .others (at m shiftField) (λ e. omega arith) (λ e. omega arith);
+  states = λ f small m low high. A .others (at m f) (λ e. omega arith) (λ e. omega arith);
   previous = λ m low high. A .others (at m previousField) (λ e. omega arith) (λ e. omega arith);
 }

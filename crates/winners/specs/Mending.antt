@@ -6,18 +6,19 @@ use mathlib.Core.Logic.{_⊎_}
 use Prim.Native.Nat.{ℕ, _+_, _*_, _/_, _%_, _≤_, _<_}
 use lib.ListN.{length, getD, set}
 use Rattle.moves.specs.declared.Run.{Run}
-use Rattle.moves.specs.declared.State.{State}
+use Rattle.states.specs.declared.State.{State}
 use Rattle.moves.specs.Trip.{Trip}
 use Rattle.moves.specs.Runs.{tripIn}
-use Rattle.labels.specs.LabelWords.{stride, cursorField, winnerField, at, cursorOf, settled}
+use Rattle.states.specs.LabelSpace.{labelWords}
+use Rattle.labels.specs.LabelWords.{cursorField, winnerField, at, cursorOf, settled}
 use Rattle.labels.specs.Tree.{Tree, Better, Mending, Entering}
-use Rattle.candidates.specs.Candidates.{rankNumber}
+use Rattle.states.specs.RankNumber.{wordBase, Small, rankNumber}
 use Rattle.winners.specs.declared.Contender.{Contender}
-use Rattle.winners.specs.Keys.{noKey, keyAt, Ready, OnlyWinners, Small}
+use Rattle.winners.specs.Keys.{noKey, keyAt, Ready, OnlyWinners}
 
 -- the key of a label with a candidate, or without
 abbrev pub numberOf : Bool → State → ℕ → ℕ
-numberOf true s k = rankNumber s * 4294967296 + k
+numberOf true s k = rankNumber s * wordBase + k
 numberOf false s k = noKey
 
 abbrev pub contenderKey : Contender → ℕ
@@ -31,7 +32,7 @@ pub record Shut (k : ℕ) (c : Contender) : Type 0 where
 
 -- what is compared is in words
 pub record Fit (c : Contender) : Type 0 where
-  pub label : c .label < 4294967296
+  pub label : c .label < wordBase
   pub state : Small (c .state)
 
 -- the contender is told as its label is
@@ -82,7 +83,7 @@ pub record Advanced (map : List ℕ) (run : Run) (ws ws′ : List ℕ) (n k curs
   pub tree : Tree (keyAt (tripIn map run) ws′) ws′ n
   pub is-cursor : cursorOf ws′ k ≡ cursor
   pub cursors : (m : ℕ) → 1 ≤ m → (m ≡ k → ⊥) → cursorOf ws′ m ≡ cursorOf ws m
-  pub others : (p : ℕ) → (p % stride ≡ winnerField → ⊥) → (p % stride ≡ cursorField → ⊥) → getD ws′ p 0 ≡ getD ws p 0
+  pub others : (p : ℕ) → (p % labelWords ≡ winnerField → ⊥) → (p % labelWords ≡ cursorField → ⊥) → getD ws′ p 0 ≡ getD ws p 0
   pub settled : settled ws′ n ≡ settled ws n
 
 -- label n + 1, told as c, has come in, and the nodes from j up are left to mend

@@ -3,15 +3,14 @@
 ghost use Prim.Native.Nat.{_+_, _*_, _/_, _<_, _≤_};
 ghost use lib.ListN.{length};
 ghost use Rattle.moves.specs.Runs.{Accepted, tripIn};
-ghost use Rattle.labels.specs.LabelWords.{stride, labelAt};
+ghost use Rattle.states.specs.LabelSpace.{labelWords};
+ghost use Rattle.labels.specs.LabelWords.{labelAt};
 ghost use Rattle.labels.specs.Tree.{Tree, TreeBut, Entering};
-ghost use Rattle.candidates.specs.Candidates.{stateOf, Cursor};
+ghost use Rattle.candidates.specs.Candidates.{Cursor};
 ghost use Rattle.winners.specs.Keys.{keyAt, Entrant, Ready};
 ghost use Rattle.winners.specs.Mending.{Shut, Fit, Stands, Named, Best, Decided, Carries, Climbed, Mended, Advanced, Enters, Placed, Leading};
 use moves::Run;
-use moves::State;
-use seconds::Clock;
-use seconds::Wheel;
+use states::State;
 
 // A label with its candidate, if it has one; label 0 is none.
 struct Contender {
@@ -26,12 +25,7 @@ fn shut(k: usize) -> Contender
     Contender {
         label: k,
         live: false,
-        state: State {
-            junction: 0,
-            clock: Clock(0),
-            spell: Wheel(0),
-            shift: Wheel(0),
-        },
+        state: State::NOWHERE,
     }
 }
 
@@ -49,7 +43,7 @@ fn candidate_of(map: &[u8], run: Run, words: &[u32], k: usize) -> Contender
         return shut(k);
     }
     let label = labels::read_label(words, k);
-    let state = candidates::result_at(map, run, candidates::state_of(label), cursor);
+    let state = candidates::result_at(map, run, label, cursor);
     Contender {
         label: k,
         live: true,
@@ -69,12 +63,12 @@ fn better(a: Contender, b: Contender) -> Contender
         return b;
     }
     if a.label < b.label {
-        if candidates::ranks_no_higher(a.state, b.state) {
+        if states::ranks_no_higher(a.state, b.state) {
             return a;
         }
         return b;
     }
-    if candidates::ranks_no_higher(b.state, a.state) {
+    if states::ranks_no_higher(b.state, a.state) {
         return b;
     }
     a
@@ -151,7 +145,7 @@ pub fn advance(map: &[u8], run: Run, words: &mut [u32], n: usize, k: usize, curs
     requires { ⌜ Ready (now map) run (now words) n ⌝ }
     requires { ⌜ Tree (keyAt (tripIn (now map) run) (now words)) (now words) n ⌝ }
     requires { ⌜ (1 ≤ k) × (k ≤ n) ⌝ }
-    requires { ⌜ Cursor (tripIn (now map) run) (stateOf (labelAt (now words) k)) cursor ⌝ }
+    requires { ⌜ Cursor (tripIn (now map) run) (labelAt (now words) k) cursor ⌝ }
     ensures { λ _. ⌜ Advanced (now (map .entry)) run (now (words .entry)) (now (words .exit)) n k cursor ⌝ }
 {
     labels::set_cursor(words, k, cursor);
@@ -192,7 +186,7 @@ pub fn enter(map: &[u8], run: Run, words: &mut [u32], n: usize)
 
 // The label whose candidate is the lowest of all.
 pub fn leading(words: &[u32], n: usize) -> usize
-    requires { ⌜ (1 ≤ n) × (stride * n ≤ length (now words)) ⌝ }
+    requires { ⌜ (1 ≤ n) × (labelWords * n ≤ length (now words)) ⌝ }
     ensures { λ r. ⌜ Leading (now (words .entry)) n r ⌝ }
 {
     labels::winner(words, 1) as usize

@@ -1,56 +1,58 @@
-use mathlib.Core.Path.{_∙_, sym}
-use Prim.Native.Nat.{_+_}
+-- Before a kind the cursors of all roads and of the kinds below it are tried.
+use mathlib.Core.Path.{_≡_}
+use Prim.Native.Nat.{_+_, _-_, _≤_}
 use native.Mathlib.Omega.{arith}
-use borrow.Author.Tests.{not-true, not-false}
 use borrow.Author.Needs.{needs}
-use Rattle.candidates.specs.Candidates.{statesOf}
-use Rattle.candidates.proofs.Cursors.{no-pause, break-tried, rest-tried}
+use Rattle.roadmap.specs.Format.{roadCount}
+use Rattle.driving.specs.Hours.{firstPause, lastPause}
+use Rattle.labels.specs.LabelWords.{settled}
+use Rattle.moves.specs.Runs.{tripIn}
+use Rattle.candidates.specs.Trying.{BestBelow}
 use Rattle.candidates.proofs.best_pause.Statement.{statement}
 use Rattle.candidates.proofs.best_pause.Tie as tie
 
-returns : tie.Need-returns
+abbrev Inv-loop : tie.InvT-loop
+Inv-loop map run words heads spells shifts n state bound road kind₀ best kind =
+    (firstPause ≤ kind) × (kind ≤ lastPause + 1) × BestBelow (tripIn map run) (settled words n) state bound (roadCount map + (kind - 1)) best
+
+abbrev μ-loop : tie.MeasureT-loop
+μ-loop map run words heads spells shifts n state bound road kind₀ best kind = lastPause + 1 - kind
+
+loop-holds : tie.Need-loop-holds Inv-loop μ-loop
+loop-holds c =
+    let s = c .before .before .before .before .before in
+    (omega arith, omega arith, s .pre .1 .1 .1)
+
+try-pause-requires : tie.Need-try-pause-requires Inv-loop μ-loop
+try-pause-requires c κs =
+    let inv = c .before .loop .inv in
+    let s = c .before .before .before .before .before .before .before in
+    (s .pre .0, (s .pre .1 .0, (s .pre .1 .1 .0, ((inv .0, c .loop-test .taken), inv .2))))
+
+loop-less : tie.Need-loop-less Inv-loop μ-loop
+loop-less c = omega (arith, c .before .loop-test .taken)
+
+loop-again : tie.Need-loop-again Inv-loop μ-loop
+loop-again c =
+    let l = c .before .before .loop in
+    let next : l .kind + 1 - 1 ≡ l .kind = omega arith in
+    (omega (arith, l .inv .0), omega (arith, c .before .loop-test .taken), rw next (c .try-pause .ensures))
+
+returns : tie.Need-returns Inv-loop μ-loop
 returns c =
-    let start = c .before .before .before .before .before .before .before .before in
-    let args = start .args in
-    no-pause (args .map .now) (args .run .order) (args .state) (statesOf (args .words .now) (args .n)) (args .bound) (args .best) (sym (c .before .is-park .ensures) ∙ not-true (c .before .is-park .result) (c .if1 .taken)) (start .pre .1 .1 .1)
-
-consider-requires : tie.Need-consider-requires
-consider-requires c κs =
-    let start = c .before .before .before .before .before .before .before .before .before in
-    (start .pre .1 .1 .0 .0, rw (c .after-break .ensures) (omega (arith, start .pre .1 .1 .0 .1, start .pre .1 .0 .high)))
-
-after-rest-requires : tie.Need-after-rest-requires
-after-rest-requires c κs =
-    let start = c .before .before .before .before .before .before .before .before .before .before in
-    (omega (arith, start .pre .0 .ordered, start .pre .1 .0), omega (arith, start .pre .0 .ordered .sound-rules))
-
-consider-requires-2 : tie.Need-consider-requires-2
-consider-requires-2 c κs =
-    let start = c .before .before .before .before .before .before .before .before .before .before .before in
-    (start .pre .1 .1 .0 .0, rw (c .after-rest .ensures) (omega (arith, start .pre .1 .1 .0 .1, start .pre .1 .0 .high)))
-
-returns-2 : tie.Need-returns-2
-returns-2 c =
-    let start = c .before .before .before .before .before .before .before .before .before .before .before .before in
-    let args = start .args in
-    let asked = c .before .before .before .before .before in
-    let park = sym (asked .is-park .ensures) ∙ not-false (asked .is-park .result) (c .before .before .before .before .if1 .left) in
-    let broke = c .before .before .before .after-break in
-    let better = c .before .before .consider in
-    let rested = c .before .after-rest in
-    rest-tried (args .map .now) (args .run .order) (args .state) (statesOf (args .words .now) (args .n)) (args .bound) (better .result) (record { cursor = args .run .sizes .roads + 2; state = rested .result }) (c .consider2 .result) (omega (arith, start .pre .0 .sized)) park (rested .ensures) (c .consider2 .ensures)
-    (break-tried (args .map .now) (args .run .order) (args .state) (statesOf (args .words .now) (args .n)) (args .bound) (args .best) (record { cursor = args .run .sizes .roads + 1; state = broke .result }) (better .result) (omega (arith, start .pre .0 .sized)) park (broke .ensures) (better .ensures) (start .pre .1 .1 .1))
+    let l = c .before .loop in
+    let is : l .kind - 1 ≡ lastPause = omega (arith, l .inv .1, c .loop-test .left) in
+    rw (← is) (l .inv .2)
 
 pub best-pause-spec : {M : Type 1} → statement M
 best-pause-spec =
     tie.close
     (tie.spec
-    (λ c κs. search needs)
-    returns
-    (λ c κs. search needs)
+    Inv-loop
+    μ-loop
+    loop-holds
+    try-pause-requires
     (λ c. search needs)
-    consider-requires
-    after-rest-requires
-    (λ c. omega (arith, c .before .before .before .before .before .before .before .before .before .before .before .pre .0 .sized))
-    consider-requires-2
-    returns-2)
+    loop-less
+    loop-again
+    returns)

@@ -1,5 +1,5 @@
 use borrow.Author.Needs.{needs}
-use Rattle.candidates.specs.Candidates.{statesOf}
+use Rattle.labels.specs.LabelWords.{settled}
 use Rattle.candidates.proofs.Cursors.{tried-all}
 use Rattle.candidates.proofs.next_candidate.Statement.{statement}
 use Rattle.candidates.proofs.next_candidate.Tie as tie
@@ -12,7 +12,7 @@ best-pause-requires c κs =
 returns : tie.Need-returns
 returns c =
     let args = c .before .before .before .before .before .before .before .args in
-    tried-all (args .map .now) (args .run .order) (args .state) (statesOf (args .words .now) (args .n)) (args .bound) (c .best-pause .result) (c .best-pause .ensures)
+    tried-all (args .map .now) (args .run .order) (args .state) (settled (args .words .now) (args .n)) (args .bound) (c .best-pause .result) (c .best-pause .ensures)
 
 pub next-candidate-spec : {M : Type 1} → statement M
 next-candidate-spec = tie.close (tie.spec (λ c κs. search needs) best-pause-requires returns)

@@ -1,39 +1,51 @@
-use borrow.Author.Needs.{needs}
 use mathlib.Core.Path.{_∙_}
+use Prim.Native.Nat.{_+_, _-_}
 use native.Mathlib.Omega.{arith}
-use Rattle.candidates.proofs.Results.{result-drive, result-break, result-rest}
+use borrow.Author.Needs.{needs}
+use Rattle.moves.proofs.Trips.{roads-in}
+use Rattle.moves.proofs.Rising.{clock-high}
+use Rattle.candidates.proofs.Results.{result-drive, result-pause}
 use Rattle.candidates.proofs.result_at.Statement.{statement}
 use Rattle.candidates.proofs.result_at.Tie as tie
 
+after-drive-requires : tie.Need-after-drive-requires
+after-drive-requires c κs =
+    let s = c .before .before .before .before in
+    (s .pre .0, (s .pre .1 .0, (s .pre .1 .1 .low, omega (arith, c .if1 .taken, s .pre .0 .sized .roads))))
+
 returns : tie.Need-returns
 returns c =
-    let start = c .before .before .before .before .before in
-    let args = start .args in
-    c .after-drive .ensures ∙ result-drive (args .map .now) (args .run .order) (args .state) (args .cursor) (start .pre .1 .1 .low) (omega (arith, c .before .if1 .taken, start .pre .0 .sized .roads))
+    let s = c .before .before .before .before .before in
+    let args = s .args in
+    c .after-drive .ensures ∙ result-drive (args .map .now) (args .run .order) (args .state) (args .cursor) (s .pre .1 .1 .low) (omega (arith, c .before .if1 .taken, s .pre .0 .sized .roads))
+
+add-after-pause : tie.Need-add-after-pause
+add-after-pause c =
+    let s = c .before .before .before .before .before in
+    omega (arith, s .pre .1 .1 .high, roads-in (s .args .map .now) (s .args .run .order), s .pre .0 .sized .roads)
+
+after-pause-requires : tie.Need-after-pause-requires
+after-pause-requires c κs =
+    let s = c .before .before .before .before .before in
+    let args = s .args in (
+      (s .pre .0 .ordered .sound-rules, clock-high _ (args .run .order) (s .pre .0 .ordered) (args .state) (s .pre .1 .0)),
+      (omega (arith, c .before .if1 .left), omega (arith, c .before .if1 .left, s .pre .1 .1 .high, roads-in (args .map .now) (args .run .order), s .pre .0 .sized .roads)),
+    )
 
 returns-2 : tie.Need-returns-2
 returns-2 c =
-    let chosen = c .before in
-    let start = chosen .before .before .before .before .before .before in
-    let args = start .args in
-    c .after-break .ensures ∙ result-break (args .map .now) (args .run .order) (args .state) (args .cursor) (omega (arith, chosen .if2 .taken, start .pre .0 .sized .roads))
-
-returns-3 : tie.Need-returns-3
-returns-3 c =
-    let chosen = c .before in
-    let first = chosen .before .before in
-    let start = first .before .before .before .before in
-    let args = start .args in
-    c .after-rest .ensures ∙ result-rest (args .map .now) (args .run .order) (args .state) (args .cursor) (omega (arith, first .if1 .left, start .pre .0 .sized .roads)) (λ e. chosen .if2 .left (e ∙ omega (arith, start .pre .0 .sized .roads)))
+    let s = c .before .before .before .before .before .before in
+    let args = s .args in
+    c .after-pause .ensures
+    ∙ result-pause (args .map .now) (args .run .order) (args .state) (args .cursor) (args .cursor - args .run .sizes .roads + 1) (omega (arith, c .before .before .if1 .left)) (omega (arith, c .before .before .if1 .left, s .pre .0 .sized .roads))
 
 pub result-at-spec : {M : Type 1} → statement M
 result-at-spec =
     tie.close
     (tie.spec
-    (λ c κs. search needs)
+    after-drive-requires
     returns
     (λ c. search needs)
-    (λ c κs. search needs)
-    returns-2
-    (λ c κs. search needs)
-    returns-3)
+    add-after-pause
+    after-pause-requires
+    returns-2)

@@ -1,9 +1,7 @@
 -- The walk goes back along the labels of the junction; none that it has passed covers the label.
-use mathlib.Core.Path.{subst}
 use native.Mathlib.Omega.{arith}
 use borrow.Author.Needs.{needs}
-use Rattle.labels.specs.Lists.{Says}
-use Rattle.labels.proofs.Lists.{Past, covered-by, least-spell-above, least-shift-above, walk-first, walk-falls, walk-step, walk-end}
+use Rattle.labels.proofs.Lists.{Past, covered-by, told-covers, told-not, least-spell-above, least-shift-above, walk-first, walk-falls, walk-step, walk-end}
 use Rattle.labels.proofs.covered.Statement.{statement}
 use Rattle.labels.proofs.covered.Tie as tie
 
@@ -31,32 +29,38 @@ loop-holds c =
     let s = c .before .before .before .before .before .before .before .before .before .before .before .before in
     walk-first (s .args .label) (s .pre .0) (s .pre .1)
 
-no-worse-requires : tie.Need-no-worse-requires Inv-loop μ-loop
-no-worse-requires c κs =
-    let l = c .before .loop in
-    (c .loop-test .taken, omega (arith, l .inv .high), l .inv .here (c .loop-test .taken))
+read-label-requires : tie.Need-read-label-requires Inv-loop μ-loop
+read-label-requires c κs = (c .loop-test .taken, omega (arith, c .before .loop .inv .high))
 
 returns-3 : tie.Need-returns-3 Inv-loop μ-loop
 returns-3 c =
-    let l = c .before .before .before .loop in
-    covered-by _ _ (l .k) _ (c .before .before .loop-test .taken) (l .inv .high) (subst (Says _) (c .if3 .taken) (c .before .no-worse .ensures))
+    let asked = c .before in
+    let l = asked .before .before .before .loop in
+    covered-by _ _ (l .k) _ (asked .before .before .loop-test .taken) (l .inv .high)
+    (told-covers _ (asked .before .read-label .ensures) (asked .covers .ensures) (c .if3 .taken))
 
 previous-requires : tie.Need-previous-requires Inv-loop μ-loop
 previous-requires c κs =
-    let l = c .before .before .before .loop in
-    (c .before .before .loop-test .taken, omega (arith, l .inv .high))
+    let tested = c .before .before .before in
+    let s = tested .before .before .before .before .before .before .before .before .before .before .before .before .before .before in
+    (tested .loop-test .taken, omega (arith, tested .before .loop .inv .high, s .pre .0 .room))
 
 loop-less : tie.Need-loop-less Inv-loop μ-loop
 loop-less c =
-    let s = c .before .before .before .before .before .before .before .before .before .before .before .before .before .before .before .before .before in
-    let l = c .before .before .before .before .loop in
-    omega (arith, c .previous .ensures, walk-falls (s .args .label) (s .pre .0) (s .pre .1) (l .k) (c .before .before .before .loop-test .taken) (l .inv .high))
+    let tested = c .before .before .before .before in
+    let s = tested .before .before .before .before .before .before .before .before .before .before .before .before .before .before in
+    let l = tested .before .loop in
+    omega (arith, c .previous .ensures, walk-falls (s .args .label) (s .pre .0) (s .pre .1) (l .k) (tested .loop-test .taken) (l .inv .high))
 
 loop-again : tie.Need-loop-again Inv-loop μ-loop
 loop-again c =
-    let s = c .before .before .before .before .before .before .before .before .before .before .before .before .before .before .before .before .before in
-    let l = c .before .before .before .before .loop in
-    rw (c .previous .ensures) (walk-step (s .args .label) (s .pre .0) (s .pre .1) (l .k) (c .before .before .before .loop-test .taken) (l .inv) (subst (Says _) (c .before .if3 .left) (c .before .before .no-worse .ensures)))
+    let asked = c .before .before in
+    let tested = asked .before .before in
+    let s = tested .before .before .before .before .before .before .before .before .before .before .before .before .before .before in
+    let l = tested .before .loop in
+    rw (c .previous .ensures)
+    (walk-step (s .args .label) (s .pre .0) (s .pre .1) (l .k) (tested .loop-test .taken) (l .inv)
+    (told-not _ (asked .before .read-label .ensures) (asked .covers .ensures) (c .before .if3 .left)))
 
 returns-4 : tie.Need-returns-4 Inv-loop μ-loop
 returns-4 c = walk-end (c .before .loop .inv) (omega arith)
@@ -78,7 +82,8 @@ covered-spec =
     (λ c. search needs)
     cast-k
     loop-holds
-    no-worse-requires
+    read-label-requires
+    (λ c κs. search needs)
     returns-3
     previous-requires
     (λ c. search needs)

@@ -3,7 +3,7 @@ use mathlib.Core.Path.{_∙_, ap, subst}
 use Prim.Native.Nat.{ℕ}
 use Rattle.replies.specs.First.{firstOf, NoneFits, Tried}
 use Rattle.replies.specs.Told.{succeeded}
-use Rattle.replies.proofs.First.{tried, refuses-more, refuses-after, none-of-both}
+use Rattle.replies.proofs.First.{tried, refuses-more, refuses-after, none-of-both, none-under}
 use Rattle.roadmap.specs.Format.{junctionCount}
 use Rattle.mapcheck.specs.MapCheck.{mapTests, AcceptedMap}
 use Rattle.mapcheck.proofs.Tried.{map-tried, accepted-sizes, has-header, has-sizes}
@@ -54,7 +54,9 @@ none-fits c =
     subst (Tried (orderTests (junctionCount (start .args .map .now)) (start .args .order .now))) (c .enum-told2 .given .1) (order-tried (c .before .before))
 
 read-order-requires : tie.Need-read-order-requires
-read-order-requires c κs = order-length (c .before .before .before .before .before .before .before .before .before .args .order .now) (none-fits c .0)
+read-order-requires c κs =
+    let args = c .before .before .before .before .before .before .before .before .before .args in
+    order-length (args .order .now) (none-under 9 (orderTests (junctionCount (args .map .now)) (args .order .now)) (none-fits c))
 
 returns-3 : tie.Need-returns-3
 returns-3 c =

@@ -1,44 +1,45 @@
-use borrow.Author.Needs.{needs}
 use mathlib.Core.Path.{_∙_, sym}
-use mathlib.Core.Bool.{true, false}
-use Rattle.moves.proofs.Stepped.{pause-foreign, pause-told}
+use borrow.Author.Needs.{needs}
+use borrow.Author.Tests.{not-true, not-false}
+use Rattle.moves.specs.Runs.{tripIn}
+use Rattle.moves.proofs.Rising.{clock-high}
+use Rattle.moves.proofs.Offered.{pause-range}
+use Rattle.moves.proofs.Stepped.{pause-elsewhere, pause-foreign, pause-told}
 use Rattle.moves.proofs.pause.Statement.{statement}
 use Rattle.moves.proofs.pause.Tie as tie
 
 returns : tie.Need-returns
 returns c =
-    let reached = c .before in
-    let chosen = reached .before in
-    let asked = chosen .before .before .before in
-    let args = asked .before .before .args in
-    rw (chosen .if2 .taken)
-    (c .judge .ensures
-    ∙ pause-told (args .map .now) (args .run .order) (args .state) (args .number) true (sym (asked .pauses-at .ensures) ∙ chosen .before .before .if1 .taken) (reached .after-break .ensures))
+    let s = c .before .before .before .before in
+    let args = s .args in
+    pause-elsewhere (args .map .now) (args .run .order) (args .state) (args .m .number) (args .m .kind) (s .pre .1 .1) (c .if1 .taken)
 
 returns-2 : tie.Need-returns-2
 returns-2 c =
-    let reached = c .before in
-    let chosen = reached .before in
-    let asked = chosen .before .before .before in
-    let args = asked .before .before .args in
-    rw (chosen .if2 .left)
-    (c .judge2 .ensures
-    ∙ pause-told (args .map .now) (args .run .order) (args .state) (args .number) false (sym (asked .pauses-at .ensures) ∙ chosen .before .before .if1 .taken) (reached .after-rest .ensures))
+    let s = c .before .before .before .before .before .before in
+    let args = s .args in
+    pause-foreign (args .map .now) (args .run .order) (args .state) (args .m .number) (args .m .kind) (s .pre .1 .1) (c .before .before .if1 .left)
+    (sym (c .before .may-pause .ensures) ∙ not-true _ (c .if2 .taken))
+
+after-pause-requires : tie.Need-after-pause-requires
+after-pause-requires c κs =
+    let s = c .before .before .before .before .before .before .before in
+    let args = s .args in (
+      (s .pre .0 .ordered .sound-rules, clock-high _ (args .run .order) (s .pre .0 .ordered) (args .state) (s .pre .1 .0)),
+      pause-range (tripIn (args .map .now) (args .run)) (args .state) (args .m .kind)
+          (sym (c .before .before .may-pause .ensures) ∙ not-false _ (c .before .if2 .left)),
+    )
 
 returns-3 : tie.Need-returns-3
 returns-3 c =
-    let args = c .before .before .before .args in
-    pause-foreign (args .map .now) (args .run .order) (args .state) (args .number) (args .short) (sym (c .before .pauses-at .ensures) ∙ c .if1 .left)
+    let asked = c .before .before .before .before in
+    let s = asked .before .before .before .before .before in
+    let args = s .args in
+    c .judge .ensures
+    ∙ pause-told (args .map .now) (args .run .order) (args .state) (args .m .number) (args .m .kind) (s .pre .1 .1) (asked .before .if1 .left)
+    (sym (asked .may-pause .ensures) ∙ not-false _ (c .before .before .before .if2 .left)) (c .before .after-pause .ensures)
 
 pub pause-spec : {M : Type 1} → statement M
 pause-spec =
     tie.close
-    (tie.spec
-    (λ c κs. search needs)
-    (λ c κs. search needs)
-    (λ c κs. search needs)
-    returns
-    (λ c κs. search needs)
-    (λ c κs. search needs)
-    returns-2
-    returns-3)
+    (tie.spec returns (λ c κs. search needs) returns-2 after-pause-requires (λ c κs. search needs) returns-3)

@@ -4,16 +4,17 @@ use Rattle.planner.proofs.Handing.{moves-below, handed-written}
 use Rattle.planner.proofs.write_plan.Statement.{statement}
 use Rattle.planner.proofs.write_plan.Tie as tie
 
-cast-t13 : tie.Need-cast-t13
-cast-t13 c =
-    let s = c .before .before .before .before .before .before .before .before in
+cast-t15 : tie.Need-cast-t15
+cast-t15 c =
+    let read = c .before .before .before in
+    let s = read .before .before .before .before .before .before .before .before in
     let a = s .args in
     omega (arith, s .pre .1 .0, s .pre .1 .1 .0, moves-below (a .map .now) (a .run) (a .words .now) (a .n) (s .pre .0))
 
 returns : tie.Need-returns
 returns c =
     let put = c .before .before in
-    let read = put .before .before in
+    let read = put .before .before .before .before .before in
     let wrote = read .before .before .before in
     let s = wrote .before .before .before .before .before in
     let a = s .args in
@@ -25,7 +26,7 @@ write-plan-spec =
     (tie.spec
     (λ c κs. search needs)
     (λ c κs. search needs)
-    cast-t13
+    cast-t15
     (λ c. search needs)
     (λ c κs. search needs)
     (λ c. search needs)

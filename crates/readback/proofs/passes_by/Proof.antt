@@ -14,6 +14,11 @@ returns : tie.Need-returns
 unfolding passesBy
 returns c = let none : c .before .before .args .road ≤ 0 = omega (arith, c .if1 .taken) in rw (le-ltb 0 (c .before .before .args .road) none)
 
+after-drive-requires : tie.Need-after-drive-requires
+after-drive-requires c κs =
+    let start = c .before .before .before in
+    (start .pre .0, (start .pre .1, (omega (arith, c .before .if1 .left), start .pre .2)))
+
 returns-2 : tie.Need-returns-2
 unfolding passesBy
 returns-2 c =
@@ -25,4 +30,4 @@ returns-2 c =
     (ap not (c .leads-to .ensures))
 
 pub passes-by-spec : {M : Type 1} → statement M
-passes-by-spec = tie.close (tie.spec returns (λ c κs. search needs) (λ c κs. search needs) returns-2)
+passes-by-spec = tie.close (tie.spec returns after-drive-requires (λ c κs. search needs) returns-2)

@@ -45,12 +45,12 @@ use denote.Triple.Clauses.{ensured, lasts}
 use denote.Exit.{yes}
 use Rattle.roadmap.specs.Format.{junctionCount, roadCount, firstRoad, nextRoad}
 use Rattle.moves.specs.declared.Run.{Run}
-use Rattle.moves.specs.declared.State.{State}
+use Rattle.states.specs.declared.State.{State}
 use Rattle.moves.specs.Runs.{Accepted, InRange, tripIn}
 use Rattle.moves.proofs.Run as R
 use Rattle.moves.proofs.Run.Laws as R′
-use Rattle.moves.proofs.State as S
-use Rattle.moves.proofs.State.Laws as S′
+use Rattle.states.proofs.State as S
+use Rattle.states.proofs.State.Laws as S′
 use Rattle.chains.specs.declared.ChainReader.{ChainReader}
 use Rattle.chains.proofs.ChainReader as T
 use Rattle.chains.proofs.ChainReader.Laws as T′

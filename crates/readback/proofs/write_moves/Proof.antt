@@ -5,7 +5,6 @@ use native.Mathlib.Omega.{arith}
 use borrow.Author.Needs.{needs}
 use Rattle.moves.specs.Runs.{tripIn}
 use Rattle.labels.specs.LabelWords.{parentOf, labelAt}
-use Rattle.candidates.specs.Candidates.{stateOf}
 use Rattle.readback.proofs.Counted.{held-descends}
 use Rattle.readback.proofs.Read.{label-range, parent-leads}
 use Rattle.readback.proofs.Backward.{Writing, write-first, write-fits, write-some, write-next, write-end}
@@ -31,16 +30,16 @@ parent-requires c κs =
     let args = start .args in
     (at-loop .loop .inv .low, omega (arith, start .pre .0 .held .fits, at-loop .loop .inv .high))
 
-state-at-requires : tie.Need-state-at-requires Inv-loop μ-loop
-state-at-requires c κs =
+read-label-requires : tie.Need-read-label-requires Inv-loop μ-loop
+read-label-requires c κs =
     let at-loop = c .before .before in
     let start = at-loop .before .before .before .before in
     let args = start .args in
     let parent = held-descends (tripIn (args .map .now) (args .run)) (args .words .now) (args .n) (start .pre .0 .held) .parents (at-loop .loop .k) (c .before .loop-test .taken) (at-loop .loop .inv .high) in
     (omega (arith, c .parent .ensures, parent .low), omega (arith, c .parent .ensures, parent .below, at-loop .loop .inv .high, start .pre .0 .held .fits))
 
-state-at-requires-2 : tie.Need-state-at-requires-2 Inv-loop μ-loop
-state-at-requires-2 c κs =
+read-label-requires-2 : tie.Need-read-label-requires-2 Inv-loop μ-loop
+read-label-requires-2 c κs =
     let at-loop = c .before .before .before in
     let start = at-loop .before .before .before .before in
     let args = start .args in
@@ -52,7 +51,7 @@ row-for-requires c κs =
     let start = at-loop .before .before .before .before in
     let args = start .args in
     let parent = held-descends (tripIn (args .map .now) (args .run)) (args .words .now) (args .n) (start .pre .0 .held) .parents (at-loop .loop .k) (c .before .before .before .loop-test .taken) (at-loop .loop .inv .high) in
-    rw (c .state-at2 .ensures, c .before .state-at .ensures, c .before .before .parent .ensures)
+    rw (c .read-label2 .ensures, c .before .read-label .ensures, c .before .before .parent .ensures)
     (start .pre .0 .accepted, (label-range (args .map .now) (args .run) (args .words .now) (args .n) (start .pre .0) (parentOf (args .words .now) (at-loop .loop .k)) (parent .low) (omega (arith, parent .below, at-loop .loop .inv .high)), parent-leads (args .map .now) (args .run) (args .words .now) (args .n) (start .pre .0) (at-loop .loop .k) (c .before .before .before .loop-test .taken) (at-loop .loop .inv .high)))
 
 write-row-requires : tie.Need-write-row-requires Inv-loop μ-loop
@@ -82,10 +81,10 @@ loop-again c =
     let start = at-loop .before .before .before .before in
     let args = start .args in
     let parent = c .before .before .before .before .before .before .before .parent in
-    let from = c .before .before .before .before .before .before .state-at .ensures ∙ ap (λ (j : ℕ). stateOf (labelAt (args .words .now) j)) (parent .ensures) in
+    let from = c .before .before .before .before .before .before .read-label .ensures ∙ ap (λ (j : ℕ). labelAt (args .words .now) j) (parent .ensures) in
     rw (c .before .before .write-row .ensures, parent .ensures)
     (write-next (args .map .now) (args .run) (args .words .now) (args .n) (start .pre .0) (args .sheet .now) (at-loop .loop .sheet) (at-loop .loop .k) (at-loop .loop .left) (c .before .before .before .before .row-for .result) (at-loop .loop .inv) (c .before .before .before .before .before .before .before .before .loop-test .taken) (omega (arith, start .pre .1))
-    (rw (from, c .before .before .before .before .before .state-at2 .ensures) at (c .before .before .before .before .row-for .ensures)))
+    (rw (from, c .before .before .before .before .before .read-label2 .ensures) at (c .before .before .before .before .row-for .ensures)))
 
 same-length : tie.Need-same-length Inv-loop μ-loop
 same-length c =
@@ -107,8 +106,8 @@ write-moves-spec =
     loop-holds
     parent-requires
     (λ c. search needs)
-    state-at-requires
-    state-at-requires-2
+    read-label-requires
+    read-label-requires-2
     row-for-requires
     write-row-requires
     sub-left

@@ -7,7 +7,6 @@ use Rattle.retiming.specs.declared.Walked.{Walked}
 use Rattle.retiming.specs.Retiming.{timing}
 use Rattle.retiming.specs.Parts.{SheetSays}
 use mathlib.Core.Bool.{true}
-use Rattle.retiming.specs.Retiming.{timing}
 use Rattle.retiming.proofs.Judging.{audited-refused, audited-false, audited-true}
 use Rattle.retiming.proofs.audit_run.Statement.{statement}
 use Rattle.retiming.proofs.audit_run.Tie as tie

@@ -6,7 +6,7 @@ use Prim.Native.Nat.{_+_, _-_}
 use native.Mathlib.Omega.{arith}
 use borrow.Author.Needs.{needs}
 use lib.ListN.{length}
-use Rattle.moves.specs.Moves.{startOf}
+use Rattle.states.specs.States.{startOf}
 use Rattle.moves.specs.Runs.{tripIn}
 use Rattle.sheets.specs.Sheet.{rowAt}
 use Rattle.retiming.specs.Walk.{walk}

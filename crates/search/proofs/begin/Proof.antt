@@ -1,11 +1,9 @@
 -- The start is in range, and stands as the only label once the tree is entered. Assumes nothing.
-use mathlib.Core.Path.{sym, subst}
 use Prim.Native.Nat.{_<_}
 use native.Mathlib.Omega.{arith}
 use lib.ListN.{length}
 use borrow.Author.Needs.{needs}
 use Rattle.moves.specs.Runs.{tripIn}
-use Rattle.labels.specs.declared.Label.{Label}
 use Rattle.winners.proofs.Steps.{entering}
 use Rattle.search.proofs.Beginning.{start-within, first-ready, begun}
 use Rattle.search.proofs.begin.Statement.{statement}
@@ -18,28 +16,28 @@ next-candidate-requires c κs =
 
 add-label-requires : tie.Need-add-label-requires
 add-label-requires c κs =
-    let s = c .before .before .before .before .before .before .before .before .before .before .before .before .before .before .before .before .before in
-    let range = start-within (s .args .map .now) (s .args .run) (s .pre .0) (c .before .before .before .before .before .before .before .before .before .before .start-of .ensures) in
-    let here : c .before .before .before .before .before .before .before .before .before .before .start-of .result .junction < length (s .args .heads .now) = omega (arith, range .high, s .pre .1 .1 .0) in
-    ((s .pre .1 .0, subst (λ (l : Label). l .junction < length (s .args .heads .now)) (sym (c .before .before .before .before .label-of .ensures)) here), (omega arith, s .pre .1 .1 .1))
+    let s = c .before .before .before .before .before .before .before .before .before .before .before .before .before .before .before .before in
+    let range = start-within (s .args .map .now) (s .args .run) (s .pre .0) (c .before .before .before .before .before .before .before .before .before .start-of .ensures) in
+    let here : c .before .before .before .before .before .before .before .before .before .start-of .result .junction < length (s .args .heads .now) = omega (arith, range .high, s .pre .1 .1 .0) in
+    ((s .pre .1 .0, here), (omega arith, s .pre .1 .1 .1))
 
 enter-requires : tie.Need-enter-requires
 enter-requires c κs =
-    let s = c .before .before .before .before .before .before .before .before .before .before .before .before .before .before .before .before .before .before .before .before .before .before .before .before .before .before .before in
+    let s = c .before .before .before .before .before .before .before .before .before .before .before .before .before .before .before .before .before .before .before .before .before .before .before .before .before .before in
     let a = s .args in
     let added = c .before .before .before .before .before .before .before .before .before .add-label .ensures in (
       s .pre .0,
       (
-        first-ready (a .map .now) (a .run) (s .pre .0) (c .before .before .before .before .before .before .before .before .before .before .before .before .before .before .before .before .before .before .before .before .start-of .ensures) (c .before .before .before .before .before .before .before .before .before .before .before .before .before .before .label-of .ensures) (c .before .before .before .before .before .before .before .before .before .before .before .before .before .before .before .next-candidate .ensures) added (c .before .before .before .before .before .before .before .before .words .given),
+        first-ready (a .map .now) (a .run) (s .pre .0) (c .before .before .before .before .before .before .before .before .before .before .before .before .before .before .before .before .before .before .before .start-of .ensures) (c .before .before .before .before .before .before .before .before .before .before .before .before .before .before .next-candidate .ensures) added (c .before .before .before .before .before .before .before .before .words .given),
         entering (added .added) (tripIn (a .map .now) (a .run)) (λ k low high. absurd (omega arith)),
       ),
     )
 
 returns : tie.Need-returns
 returns c =
-    let s = c .before .before .before .before .before .before .before .before .before .before .before .before .before .before .before .before .before .before .before .before .before .before .before .before .before .before .before .before .before .before in
+    let s = c .before .before .before .before .before .before .before .before .before .before .before .before .before .before .before .before .before .before .before .before .before .before .before .before .before .before .before .before .before in
     let a = s .args in
-    begun (a .map .now) (a .run) (s .pre .0) (c .before .before .before .before .before .before .before .before .before .before .before .before .before .before .before .before .before .before .before .before .before .before .before .start-of .ensures) (c .before .before .before .before .before .before .before .before .before .before .before .before .before .before .before .before .before .label-of .ensures) (c .before .before .before .before .before .before .before .before .before .before .before .before .before .before .before .before .before .before .next-candidate .ensures) (c .before .before .before .before .before .before .before .before .before .before .before .before .add-label .ensures) (c .before .before .enter .ensures)
+    begun (a .map .now) (a .run) (s .pre .0) (c .before .before .before .before .before .before .before .before .before .before .before .before .before .before .before .before .before .before .before .before .before .before .start-of .ensures) (c .before .before .before .before .before .before .before .before .before .before .before .before .before .before .before .before .before .next-candidate .ensures) (c .before .before .before .before .before .before .before .before .before .before .before .before .add-label .ensures) (c .before .before .enter .ensures)
     (omega (arith, c .before .before .before .before .before .before .before .before .before .heads .given, s .pre .1 .1 .0))
 
 pub begin-spec : {M : Type 1} → statement M
@@ -48,7 +46,6 @@ begin-spec =
     (tie.spec
     (λ c κs. search needs)
     next-candidate-requires
-    (λ c κs. search needs)
     add-label-requires
     enter-requires
     (λ c. search needs)

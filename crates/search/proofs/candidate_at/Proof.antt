@@ -1,19 +1,19 @@
-use mathlib.Core.Path.{_∙_, sym, ap, ap₂, subst, subst₂}
+use mathlib.Core.Path.{_∙_, sym, ap₂, subst, subst₂}
 use Prim.Native.Nat.{ℕ}
 use borrow.Author.Needs.{needs}
 use Rattle.roadmap.specs.Format.{junctionCount}
-use Rattle.moves.specs.declared.State.{State}
+use Rattle.states.specs.declared.State.{State}
 use Rattle.moves.specs.Runs.{InRange, tripIn}
-use Rattle.candidates.specs.Candidates.{stateOf, resultAt, Names}
+use Rattle.candidates.specs.Candidates.{resultAt, Names}
 use Rattle.search.proofs.candidate_at.Statement.{statement}
 use Rattle.search.proofs.candidate_at.Tie as tie
 
 result-at-requires : tie.Need-result-at-requires
 result-at-requires c κs =
-    let s = c .before .before .before .before .before in
+    let s = c .before .before .before .before in
     let a = s .args in
     let S = s .pre .1 .1 in
-    let is = c .before .state-of .ensures ∙ ap stateOf (c .before .before .read-label .ensures) in (
+    let is = c .before .read-label .ensures in (
       s .pre .0,
       (
         subst (λ (z : State). InRange (junctionCount (a .map .now)) (a .run .order) z) (sym is) (S .range),
@@ -23,15 +23,14 @@ result-at-requires c κs =
 
 returns : tie.Need-returns
 returns c =
-    let a = c .before .before .before .before .before .before .args in
-    let is = c .before .before .state-of .ensures ∙ ap stateOf (c .before .before .before .read-label .ensures) in
+    let a = c .before .before .before .before .before .args in
+    let is = c .before .before .read-label .ensures in
     c .result-at .ensures ∙ ap₂ (λ (z : State) (k : ℕ). resultAt (tripIn (a .map .now) (a .run)) z k) is (c .before .cursor .ensures)
 
 pub candidate-at-spec : {M : Type 1} → statement M
 candidate-at-spec =
     tie.close
     (tie.spec
-    (λ c κs. search needs)
     (λ c κs. search needs)
     (λ c κs. search needs)
     result-at-requires

@@ -1,15 +1,11 @@
-use mathlib.Core.Path.{sym, subst}
+use mathlib.Core.Path.{subst}
 use Prim.Native.Nat.{_<_}
 use native.Mathlib.Omega.{arith}
 use lib.ListN.{length}
 use borrow.Author.Needs.{needs}
-use Rattle.labels.specs.declared.Label.{Label}
-use Rattle.labels.specs.LabelWords.{settled}
-use Rattle.labels.specs.Lists.{Says, SomeCovers}
-use Rattle.candidates.proofs.Trials.{covered-state}
+use Rattle.labels.specs.Lists.{Says}
 use Rattle.search.specs.Turns.{goes}
 use Rattle.search.proofs.Turning.{chosen-range}
-use Rattle.search.proofs.Stopping.{state-covered}
 use Rattle.search.proofs.Offering.{leader-chosen}
 use Rattle.search.proofs.offer.Statement.{statement}
 use Rattle.search.proofs.offer.Tie as tie
@@ -22,50 +18,50 @@ candidate-at-requires c κs =
 
 covered-requires : tie.Need-covered-requires
 covered-requires c κs =
-    let s = c .before .before .before .before .before .before .before .before .before .before .before .before in
+    let s = c .before .before .before .before .before .before .before .before .before .before .before in
     let a = s .args in
     let U = s .pre .1 .0 in
     let lead = s .pre .1 .1 .0 in
-    let candidate = c .before .before .before .before .before .candidate-at .result in
-    let won = leader-chosen (a .map .now) (a .run) (s .pre .0) U (a .w) candidate (lead .0) (lead .1) (lead .2) (c .before .before .before .before .before .candidate-at .ensures) in
+    let candidate = c .before .before .before .before .candidate-at .result in
+    let won = leader-chosen (a .map .now) (a .run) (s .pre .0) U (a .w) candidate (lead .0) (lead .1) (lead .2) (c .before .before .before .before .candidate-at .ensures) in
     let range = chosen-range (a .map .now) (a .run) U (a .w) candidate won (s .pre .0) in
     let here : candidate .junction < length (a .heads .now) = omega (arith, range .high, U .wide) in
-    (U .lists, subst (λ (l : Label). l .junction < length (a .heads .now)) (sym (c .before .before .before .before .label-of .ensures)) here)
+    (U .lists, here)
 
 pass-over-requires : tie.Need-pass-over-requires
 pass-over-requires c κs =
-    let s = c .before .before .before .before .before .before .before .before .before .before .before .before .before .before .before .before .before .before in
+    let s = c .before .before .before .before .before .before .before .before .before .before .before .before .before .before .before .before .before in
     let a = s .args in
     let lead = s .pre .1 .1 .0 in
-    let candidate = c .before .before .before .before .before .before .before .before .before .before .before .candidate-at .result in
+    let candidate = c .before .before .before .before .before .before .before .before .before .before .candidate-at .result in
     let says = subst (Says _) (c .before .before .before .before .if1 .taken) (c .before .before .before .before .before .covered .ensures) in (
       s .pre .0,
       (
         s .pre .1 .0,
         (
-          leader-chosen (a .map .now) (a .run) (s .pre .0) (s .pre .1 .0) (a .w) candidate (lead .0) (lead .1) (lead .2) (c .before .before .before .before .before .before .before .before .before .before .before .candidate-at .ensures),
-          covered-state (a .words .now) (a .n) candidate (subst (λ (l : Label). SomeCovers (settled (a .words .now) (a .n)) l) (c .before .before .before .before .before .before .before .before .before .before .label-of .ensures) says),
+          leader-chosen (a .map .now) (a .run) (s .pre .0) (s .pre .1 .0) (a .w) candidate (lead .0) (lead .1) (lead .2) (c .before .before .before .before .before .before .before .before .before .before .candidate-at .ensures),
+          says,
         ),
       ),
     )
 
 returns : tie.Need-returns
-returns c = let s = c .before .before .before .before .before .before .before .before .before .before .before .before .before .before .before .before .before .before .before .before .before in goes (c .before .before .pass-over .ensures) (s .pre .1 .1 .1 .0)
+returns c = let s = c .before .before .before .before .before .before .before .before .before .before .before .before .before .before .before .before .before .before .before .before in goes (c .before .before .pass-over .ensures) (s .pre .1 .1 .1 .0)
 
 settle-requires : tie.Need-settle-requires
 settle-requires c κs =
-    let s = c .before .before .before .before .before .before .before .before .before .before .before .before .before .before .before .before .before .before in
+    let s = c .before .before .before .before .before .before .before .before .before .before .before .before .before .before .before .before .before in
     let a = s .args in
     let lead = s .pre .1 .1 .0 in
-    let candidate = c .before .before .before .before .before .before .before .before .before .before .before .candidate-at .result in
+    let candidate = c .before .before .before .before .before .before .before .before .before .before .candidate-at .result in
     let says = subst (Says _) (c .before .before .before .before .if1 .left) (c .before .before .before .before .before .covered .ensures) in (
       s .pre .0,
       (
         s .pre .1 .0,
         (
-          leader-chosen (a .map .now) (a .run) (s .pre .0) (s .pre .1 .0) (a .w) candidate (lead .0) (lead .1) (lead .2) (c .before .before .before .before .before .before .before .before .before .before .before .candidate-at .ensures),
+          leader-chosen (a .map .now) (a .run) (s .pre .0) (s .pre .1 .0) (a .w) candidate (lead .0) (lead .1) (lead .2) (c .before .before .before .before .before .before .before .before .before .before .candidate-at .ensures),
           (
-            λ over. says (subst (λ (l : Label). SomeCovers (settled (a .words .now) (a .n)) l) (sym (c .before .before .before .before .before .before .before .before .before .before .label-of .ensures)) (state-covered (a .words .now) (a .n) candidate over)),
+            says,
             s .pre .1 .1 .1,
           ),
         ),
@@ -80,7 +76,6 @@ offer-spec =
     tie.close
     (tie.spec
     candidate-at-requires
-    (λ c κs. search needs)
     covered-requires
     pass-over-requires
     (λ c. search needs)

@@ -1,10 +1,11 @@
-use mathlib.Core.Path.{_∙_, sym, ap, subst}
+use mathlib.Core.Path.{sym, subst}
 use borrow.Author.Needs.{needs}
 use Rattle.roadmap.specs.Format.{junctionCount}
-use Rattle.moves.specs.declared.State.{State}
+use Rattle.states.specs.declared.State.{State}
 use Rattle.moves.specs.Runs.{InRange, tripIn}
 use Rattle.candidates.specs.declared.Bound.{Bound}
-use Rattle.candidates.specs.Candidates.{stateOf, statesOf, Cursor}
+use Rattle.candidates.specs.Candidates.{Cursor}
+use Rattle.labels.specs.LabelWords.{settled}
 use Rattle.candidates.specs.Next.{NextIs}
 use Rattle.search.proofs.Turning.{passed-over}
 use Rattle.search.proofs.Climbing.{root-rises}
@@ -13,28 +14,28 @@ use Rattle.search.proofs.pass_over.Tie as tie
 
 next-candidate-requires : tie.Need-next-candidate-requires
 next-candidate-requires c κs =
-    let s = c .before .before .before .before .before .before .before .before .before in
+    let s = c .before .before .before .before .before .before .before .before in
     let U = s .pre .1 .0 in
     let won = s .pre .1 .1 .0 in
-    let is = c .before .state-of .ensures ∙ ap stateOf (c .before .before .read-label .ensures) in
+    let is = c .before .read-label .ensures in
     (s .pre .0, (subst (λ (z : State). InRange (junctionCount (s .args .map .now)) (s .args .run .order) z) (sym is) (U .ready _ (won .low) (won .high) .range), (U .lists, U .wide)))
 
 advance-requires : tie.Need-advance-requires
 advance-requires c κs =
-    let s = c .before .before .before .before .before .before .before .before .before .before .before in
+    let s = c .before .before .before .before .before .before .before .before .before .before in
     let U = s .pre .1 .0 in
     let won = s .pre .1 .1 .0 in
-    let is = c .before .before .before .state-of .ensures ∙ ap stateOf (c .before .before .before .before .read-label .ensures) in
+    let is = c .before .before .before .read-label .ensures in
     (s .pre .0, (U .ready, (U .tree, ((won .low, won .high), subst (λ (z : State). Cursor (tripIn (s .args .map .now) (s .args .run)) z (c .before .next-candidate .result)) is (c .before .next-candidate .ensures .names)))))
 
 returns : tie.Need-returns
 returns c =
-    let s = c .before .before .before .before .before .before .before .before .before .before .before .before .before .before in
+    let s = c .before .before .before .before .before .before .before .before .before .before .before .before .before in
     let a = s .args in
     let U = s .pre .1 .0 in
     let won = s .pre .1 .1 .0 in
-    let is = c .before .before .before .before .before .before .state-of .ensures ∙ ap stateOf (c .before .before .before .before .before .before .before .read-label .ensures) in
-    let next = subst (λ (z : State). NextIs (tripIn (a .map .now) (a .run)) (statesOf (a .words .now) (a .n)) z (Bound.Above (a .candidate)) (c .before .before .before .before .next-candidate .result)) is (c .before .before .before .before .next-candidate .ensures) in
+    let is = c .before .before .before .before .before .before .read-label .ensures in
+    let next = subst (λ (z : State). NextIs (tripIn (a .map .now) (a .run)) (settled (a .words .now) (a .n)) z (Bound.Above (a .candidate)) (c .before .before .before .before .next-candidate .result)) is (c .before .before .before .before .next-candidate .ensures) in
     record {
       underway = passed-over (a .map .now) (a .run) U (a .w) (a .candidate) won _ _ (s .pre .1 .1 .1) next (c .before .before .advance .ensures);
       higher = root-rises (a .map .now) (a .run) (s .pre .0) U (a .w) (a .candidate) won _ _ next (c .before .before .advance .ensures);
@@ -44,7 +45,6 @@ pub pass-over-spec : {M : Type 1} → statement M
 pass-over-spec =
     tie.close
     (tie.spec
-    (λ c κs. search needs)
     (λ c κs. search needs)
     next-candidate-requires
     advance-requires

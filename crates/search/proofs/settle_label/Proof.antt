@@ -1,13 +1,11 @@
-use mathlib.Core.Path.{sym, subst}
 use Prim.Native.Nat.{_<_}
 use native.Mathlib.Omega.{arith}
 use lib.ListN.{length}
 use borrow.Author.Needs.{needs}
 use Rattle.moves.specs.Runs.{tripIn}
 use Rattle.moves.proofs.Rising.{run-sound}
-use Rattle.labels.specs.declared.Label.{Label}
 use Rattle.winners.proofs.Steps.{entering}
-use Rattle.search.proofs.Turning.{added-as, onward-as, settles, settled-now, still-chosen, key-same, chosen-range, ready-now}
+use Rattle.search.proofs.Turning.{onward-as, settles, settled-now, still-chosen, key-same, chosen-range, ready-now}
 use Rattle.search.proofs.settle_label.Statement.{statement}
 use Rattle.search.proofs.settle_label.Tie as tie
 
@@ -21,42 +19,42 @@ next-candidate-requires c κs =
 
 cast-add-label : tie.Need-cast-add-label
 cast-add-label c =
-    let s = c .before .before .before .before .before .before .before .before .before .before .before .before .before .before .before in
+    let s = c .before .before .before .before .before .before .before .before .before .before .before .before .before .before in
     omega (arith, s .pre .1 .1 .0 .high, s .pre .1 .1 .1 .1 .0)
 
 add-label-requires : tie.Need-add-label-requires
 add-label-requires c κs =
-    let s = c .before .before .before .before .before .before .before .before .before .before .before .before .before .before .before in
+    let s = c .before .before .before .before .before .before .before .before .before .before .before .before .before .before in
     let a = s .args in
     let U = s .pre .1 .0 in
     let won = s .pre .1 .1 .0 in
     let range = chosen-range (a .map .now) (a .run) U (a .w) (a .candidate) won (s .pre .0) in
     let here : a .candidate .junction < length (a .heads .now) = omega (arith, range .high, U .wide) in
-    ((U .lists, subst (λ (l : Label). l .junction < length (a .heads .now)) (sym (c .before .before .before .before .label-of .ensures)) here), s .pre .1 .1 .1 .1)
+    ((U .lists, here), s .pre .1 .1 .1 .1)
 
 enter-requires : tie.Need-enter-requires
 enter-requires c κs =
-    let s = c .before .before .before .before .before .before .before .before .before .before .before .before .before .before .before .before .before .before .before .before .before .before .before .before .before in
+    let s = c .before .before .before .before .before .before .before .before .before .before .before .before .before .before .before .before .before .before .before .before .before .before .before .before in
     let a = s .args in
     let U = s .pre .1 .0 in
     let won = s .pre .1 .1 .0 in
-    let added = added-as (c .before .before .before .before .before .before .before .before .before .before .before .before .before .before .label-of .ensures) (c .before .before .before .before .before .before .before .before .before .add-label .ensures) in
-    (s .pre .0, (ready-now (a .map .now) (a .run) U (a .w) (a .candidate) won (s .pre .0) _ _ _ _ _ (s .pre .1 .1 .1 .1 .0) (c .before .before .before .before .before .before .before .before .before .before .before .before .before .before .before .next-candidate .ensures) added, entering (added .added) (tripIn (a .map .now) (a .run)) (U .tree)))
+    let added = c .before .before .before .before .before .before .before .before .before .add-label .ensures in
+    (s .pre .0, (ready-now (a .map .now) (a .run) U (a .w) (a .candidate) won (s .pre .0) _ _ _ _ _ (s .pre .1 .1 .1 .1 .0) (c .before .before .before .before .before .before .before .before .before .before .before .before .before .before .next-candidate .ensures) added, entering (added .added) (tripIn (a .map .now) (a .run)) (U .tree)))
 
 add-pass-over : tie.Need-add-pass-over
 add-pass-over c =
-    let s = c .before .before .before .before .before .before .before .before .before .before .before .before .before .before .before .before .before .before .before .before .before .before .before .before .before .before .before .before .before .before .before .before in
+    let s = c .before .before .before .before .before .before .before .before .before .before .before .before .before .before .before .before .before .before .before .before .before .before .before .before .before .before .before .before .before .before .before in
     omega (arith, s .pre .1 .1 .1 .1 .0)
 
 pass-over-requires : tie.Need-pass-over-requires
 pass-over-requires c κs =
-    let s = c .before .before .before .before .before .before .before .before .before .before .before .before .before .before .before .before .before .before .before .before .before .before .before .before .before .before .before .before .before .before .before .before in
+    let s = c .before .before .before .before .before .before .before .before .before .before .before .before .before .before .before .before .before .before .before .before .before .before .before .before .before .before .before .before .before .before .before in
     let a = s .args in
     let U = s .pre .1 .0 in
     let won = s .pre .1 .1 .0 in
     let sound = run-sound (a .map .now) (a .run) (s .pre .0) in
-    let added = added-as (c .before .before .before .before .before .before .before .before .before .before .before .before .before .before .before .before .before .before .before .before .before .label-of .ensures) (c .before .before .before .before .before .before .before .before .before .before .before .before .before .before .before .before .add-label .ensures) in
-    let next = c .before .before .before .before .before .before .before .before .before .before .before .before .before .before .before .before .before .before .before .before .before .before .next-candidate .ensures in
+    let added = c .before .before .before .before .before .before .before .before .before .before .before .before .before .before .before .before .add-label .ensures in
+    let next = c .before .before .before .before .before .before .before .before .before .before .before .before .before .before .before .before .before .before .before .before .before .next-candidate .ensures in
     let mended = c .before .before .before .before .before .before .enter .ensures in
     let new = s .pre .1 .1 .1 .0 in (
       s .pre .0,
@@ -71,21 +69,20 @@ pass-over-requires c κs =
 
 returns : tie.Need-returns
 returns c =
-    let s = c .before .before .before .before .before .before .before .before .before .before .before .before .before .before .before .before .before .before .before .before .before .before .before .before .before .before .before .before .before .before .before .before .before .before .before in
+    let s = c .before .before .before .before .before .before .before .before .before .before .before .before .before .before .before .before .before .before .before .before .before .before .before .before .before .before .before .before .before .before .before .before .before .before in
     let a = s .args in
     let U = s .pre .1 .0 in
     let won = s .pre .1 .1 .0 in
     let sound = run-sound (a .map .now) (a .run) (s .pre .0) in
-    let added = added-as (c .before .before .before .before .before .before .before .before .before .before .before .before .before .before .before .before .before .before .before .before .before .before .before .before .label-of .ensures) (c .before .before .before .before .before .before .before .before .before .before .before .before .before .before .before .before .before .before .before .add-label .ensures) in
+    let added = c .before .before .before .before .before .before .before .before .before .before .before .before .before .before .before .before .before .before .before .add-label .ensures in
     let new = s .pre .1 .1 .1 .0 in
-    onward-as (key-same (a .map .now) (a .run) U (a .w) (a .candidate) won sound (new .0) (new .1) _ _ _ _ _ _ (c .before .before .before .before .before .before .before .before .before .before .before .before .before .before .before .before .before .before .before .before .before .before .before .before .before .next-candidate .ensures) added (c .before .before .before .before .before .before .before .before .before .enter .ensures)) (c .before .before .pass-over .ensures)
+    onward-as (key-same (a .map .now) (a .run) U (a .w) (a .candidate) won sound (new .0) (new .1) _ _ _ _ _ _ (c .before .before .before .before .before .before .before .before .before .before .before .before .before .before .before .before .before .before .before .before .before .before .before .before .next-candidate .ensures) added (c .before .before .before .before .before .before .before .before .before .enter .ensures)) (c .before .before .pass-over .ensures)
 
 pub settle-label-spec : {M : Type 1} → statement M
 settle-label-spec =
     tie.close
     (tie.spec
     next-candidate-requires
-    (λ c κs. search needs)
     cast-add-label
     add-label-requires
     enter-requires

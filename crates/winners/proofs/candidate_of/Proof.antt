@@ -2,9 +2,9 @@ use mathlib.Core.Path.{_∙_, sym, ap}
 use Prim.Native.Nat.{_≤_}
 use native.Mathlib.Omega.{arith}
 use borrow.Author.Needs.{needs}
-use Rattle.moves.specs.declared.State.{State}
+use Rattle.states.specs.declared.State.{State}
 use Rattle.moves.specs.Runs.{tripIn}
-use Rattle.candidates.specs.Candidates.{stateOf, resultAt}
+use Rattle.candidates.specs.Candidates.{resultAt}
 use Rattle.winners.proofs.Contenders.{named-none, named-shut, named-live}
 use Rattle.winners.proofs.candidate_of.Statement.{statement}
 use Rattle.winners.proofs.candidate_of.Tie as tie
@@ -34,20 +34,20 @@ read-label-requires c κs =
 
 result-at-requires : tie.Need-result-at-requires
 result-at-requires c κs =
-    let s = c .before .before .before .before .before .before .before in
-    let low : 1 ≤ s .args .k = omega (arith, c .before .before .before .before .if1 .left) in
+    let s = c .before .before .before .before .before .before in
+    let low : 1 ≤ s .args .k = omega (arith, c .before .before .before .if1 .left) in
     let sound = s .pre .1 low in
-    rw (c .state-of .ensures, c .before .read-label .ensures, c .before .before .before .cursor .ensures)
-    (s .pre .0, (sound .range, sound .cursor (omega (arith, c .before .before .if2 .left, c .before .before .before .cursor .ensures))))
+    rw (c .read-label .ensures, c .before .before .cursor .ensures)
+    (s .pre .0, (sound .range, sound .cursor (omega (arith, c .before .if2 .left, c .before .before .cursor .ensures))))
 
 returns-3 : tie.Need-returns-3
 returns-3 c =
-    let s = c .before .before .before .before .before .before .before .before in
-    let low : 1 ≤ s .args .k = omega (arith, c .before .before .before .before .before .if1 .left) in
+    let s = c .before .before .before .before .before .before .before in
+    let low : 1 ≤ s .args .k = omega (arith, c .before .before .before .before .if1 .left) in
     let trip = tripIn (s .args .map .now) (s .args .run) in
-    let cursor = c .before .before .before .before .cursor .result in
-    named-live (s .args .map .now) (s .args .run) (s .args .words .now) (s .args .k) cursor (c .result-at .result) (s .pre .0) low (s .pre .1 low) (c .before .before .before .before .cursor .ensures) (omega (arith, c .before .before .before .if2 .left))
-    (c .result-at .ensures ∙ ap (λ (x : State). resultAt trip x cursor) (c .before .state-of .ensures ∙ ap stateOf (c .before .before .read-label .ensures)))
+    let cursor = c .before .before .before .cursor .result in
+    named-live (s .args .map .now) (s .args .run) (s .args .words .now) (s .args .k) cursor (c .result-at .result) (s .pre .0) low (s .pre .1 low) (c .before .before .before .cursor .ensures) (omega (arith, c .before .before .if2 .left))
+    (c .result-at .ensures ∙ ap (λ (x : State). resultAt trip x cursor) (c .before .read-label .ensures))
 
 pub candidate-of-spec : {M : Type 1} → statement M
 candidate-of-spec =
@@ -59,6 +59,5 @@ candidate-of-spec =
     (λ c κs. search needs)
     returns-2
     read-label-requires
-    (λ c κs. search needs)
     result-at-requires
     returns-3)

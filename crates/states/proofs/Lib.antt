@@ -1,0 +1,3 @@
+-- The laws of states compared.
+pub mod Compared
+pub mod Ranks

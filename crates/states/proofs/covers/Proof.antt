@@ -1,0 +1,25 @@
+use mathlib.Core.Path.{_∙_, sym}
+use Rattle.theory.proofs.Figures.{above-over, above-within, above-last}
+use Rattle.states.proofs.Compared.{covers-other, covers-here}
+use Rattle.states.proofs.covers.Statement.{statement}
+use Rattle.states.proofs.covers.Tie as tie
+
+returns : tie.Need-returns
+returns c = sym (covers-other _ _ (c .if1 .taken))
+
+returns-2 : tie.Need-returns-2
+returns-2 c = sym (covers-here _ _ (c .before .before .before .if1 .left) ∙ above-over _ _ _ _ (c .if2 .taken))
+
+returns-3 : tie.Need-returns-3
+returns-3 c =
+    let d = c .before .before .before in
+    sym (covers-here _ _ (d .before .before .before .if1 .left) ∙ above-within _ _ _ _ (d .if2 .left) ∙ above-over _ _ _ _ (c .if3 .taken))
+
+returns-4 : tie.Need-returns-4
+returns-4 c =
+    let e = c .before .before in
+    let d = e .before .before .before in
+    sym (covers-here _ _ (d .before .before .before .if1 .left) ∙ above-within _ _ _ _ (d .if2 .left) ∙ above-within _ _ _ _ (e .if3 .left) ∙ above-last _ _)
+
+pub covers-spec : {M : Type 1} → statement M
+covers-spec = tie.close (tie.spec returns returns-2 returns-3 returns-4)

@@ -1,0 +1,46 @@
+-- A state's figures, and states compared. Document 01, "Moves" and "Labels". Assumes nothing.
+use mathlib.Core.Bool.{Bool, _&&_}
+use mathlib.Core.List.{List, [], _∷_, _++_}
+use Prim.Native.Nat.{ℕ}
+use lib.Dec.{eqb}
+use Rattle.theory.specs.States.{dominates}
+use Rattle.theory.specs.Figures.{noneAbove, sameEach, lexicographic}
+use Rattle.driving.specs.declared.Order.{Order}
+use Rattle.driving.specs.Hours.{wheelFigures, wheelLimits}
+use Rattle.states.specs.declared.State.{State}
+
+-- clock, spell, shift
+abbrev pub figuresOf : State → List ℕ
+figuresOf s = s .clock .0 ∷ wheelFigures (s .figures)
+
+-- latest arrival, spell limit, shift limit
+abbrev pub limitsOf : Order → List ℕ
+limitsOf o = o .latest .0 ∷ wheelLimits (o .rules)
+
+-- a journey starts at source with words 2, 4, 5
+abbrev pub startOf : Order → State
+startOf o = record { junction = o .source; clock = o .departure; figures = o .figures }
+
+-- legal: spell and shift at most their limits and clock at most latest
+unfoldable pub legal : Order → State → Bool
+legal o s = noneAbove (figuresOf s) (limitsOf o)
+
+-- at one junction, clock, spell and shift each at most the other's
+unfoldable pub covers : State → State → Bool
+covers b a = eqb (b .junction) (a .junction) && noneAbove (figuresOf b) (figuresOf a)
+
+-- states are ranked by clock, spell, shift, junction
+abbrev pub rankFigures : State → List ℕ
+rankFigures s = figuresOf s ++ (s .junction ∷ [])
+
+-- b ranks no higher than a
+unfoldable pub ranksNoHigher : State → State → Bool
+ranksNoHigher b a = lexicographic (rankFigures b) (rankFigures a)
+
+-- equal states
+unfoldable pub sameState : State → State → Bool
+sameState b a = sameEach (rankFigures b) (rankFigures a)
+
+-- of two different states at one junction, one dominates if its clock, spell and shift are each at most the other's
+abbrev pub dominatesState : State → State → Bool
+dominatesState b a = dominates sameState covers b a
