@@ -12,7 +12,7 @@ use Rattle.moves.specs.Moves.{offered, after}
 use Rattle.states.specs.States.{legal, sameState}
 use Rattle.sheets.specs.declared.Row.{Row}
 use Rattle.sheets.specs.declared.Heading.{Heading}
-use Rattle.sheets.specs.Sheet.{sheetNeeded, sheetAfter}
+use Rattle.sheets.specs.Sheet.{headingFor, sheetNeeded, sheetAfter}
 use Rattle.theory.specs.Labels.{parent}
 use Rattle.journeys.specs.Journeys.{startIn, succs}
 use Rattle.journeys.specs.Labels.{answerIn, labelsIn, labelCount}
@@ -76,8 +76,7 @@ planRows trip = rowsFrom trip (startIn trip) (planMoves trip)
 
 -- the header: moves M, arrival, spell, shift, N
 abbrev pub headingAt : Trip → State → Heading
-headingAt trip a =
-    record { moves = moveCount trip; arrival = a .clock; spell = a .figures .spell; shift = a .figures .shift; labels = labelCount trip }
+headingAt trip a = headingFor (moveCount trip) a (labelCount trip)
 
 -- the sheet afterwards, where there is an answer: header and records, bytes after 20 + 12M stay
 abbrev pub plannedSheet : Trip → Option State → List ℕ → List ℕ

@@ -1,5 +1,5 @@
 -- What is handed back where the search found an answer: the plan, or that the sheet is short for it. Assumes nothing.
-use mathlib.Core.Path.{_≡_, _∙_, refl, sym, ap}
+use mathlib.Core.Path.{_≡_, _∙_, refl, sym, ap, ap₂}
 use mathlib.Core.List.{List}
 use mathlib.Core.Option.{Option, some}
 use Prim.Native.Nat.{ℕ, _-_, _≤_, _<_}
@@ -14,7 +14,7 @@ use Rattle.moves.specs.Trip.{Trip}
 use Rattle.moves.specs.Runs.{tripIn}
 use Rattle.moves.proofs.Rising.{SoundTrip, run-sound}
 use Rattle.sheets.specs.declared.Heading.{Heading}
-use Rattle.sheets.specs.Sheet.{sheetNeeded, withHeading}
+use Rattle.sheets.specs.Sheet.{headingFor, sheetNeeded, withHeading}
 use Rattle.sheets.specs.Written.{backward}
 use Rattle.journeys.specs.Labels.{answerIn, label}
 use Rattle.journeys.specs.Plan.{moveCount, planRows, headingAt, plannedSheet}
@@ -25,11 +25,6 @@ use Rattle.readback.specs.Held.{Found}
 use Rattle.readback.proofs.Read.{label-held}
 use Rattle.readback.proofs.Backward.{sheet-written}
 use Rattle.planner.specs.Parts.{HandedBack}
-
--- the header of so many moves to a label, which is the last of so many
-abbrev pub headingFor : ℕ → State → ℕ → Heading
-headingFor moves label n =
-    record { moves = moves; arrival = label .clock; spell = label .figures .spell; shift = label .figures .shift; labels = n }
 
 module _ (map : List ℕ) (run : Run) (words : List ℕ) (n : ℕ) (found : Found map run words n) where
   abbrev trip : Trip
@@ -58,10 +53,10 @@ module _ (map : List ℕ) (run : Run) (words : List ℕ) (n : ℕ) (found : Foun
     heading-same : headingFor moves (labelAt words n) n ≡ headingAt trip (labelAt words n)
     heading-same = rw (counted, found .held .count)
 
-    pub handed-written : sheetNeeded moves ≤ length before → (last : State) → last ≡ labelAt words n → (rows after : List ℕ)
-        → rows ≡ backward (planRows trip) 0 before → after ≡ withHeading rows (headingFor moves last n)
+    pub handed-written : sheetNeeded moves ≤ length before → (last : State) → last ≡ labelAt words n → (heading : Heading) → heading ≡ headingFor moves last n → (rows after : List ℕ)
+        → rows ≡ backward (planRows trip) 0 before → after ≡ withHeading rows heading
         → HandedBack map run before after (Planning.Planned n (last .clock))
-    handed-written fits last is rows after moved written =
+    handed-written fits last is heading made rows after moved written =
         let enough : sheetNeeded (moveCount trip) ≤ length before = rw counted at fits in
         record {
           reply = λ fit room.
@@ -69,7 +64,7 @@ module _ (map : List ℕ) (run : Run) (words : List ℕ) (n : ℕ) (found : Foun
               ∙ ap (λ (count : ℕ). succeeded count (labelAt words n .clock .0)) (found .held .count)
               ∙ sym (reply-planned trip fit (length before) room answer-held enough);
           bytes = written
-              ∙ ap (λ (s : List ℕ). withHeading s (headingFor moves last n)) moved
+              ∙ ap₂ (λ (s : List ℕ) (h : Heading). withHeading s h) moved made
               ∙ ap (λ (l : State). withHeading (backward (planRows trip) 0 before) (headingFor moves l n)) is
               ∙ ap (withHeading (backward (planRows trip) 0 before)) heading-same
               ∙ sheet-written trip (headingAt trip (labelAt words n)) before enough

@@ -15,7 +15,6 @@ use moves::Run;
 use replies::Planning;
 use replies::Refusal;
 use search::Outcome;
-use sheets::Heading;
 
 // Writes the plan to a sheet that is long enough. The answer is the last label.
 fn write_plan(
@@ -33,21 +32,11 @@ fn write_plan(
 {
     readback::write_moves(map, run, words, n, moves, sheet);
     let answer = labels::read_label(words, n);
-    let arrival = answer.clock;
-    let spell = answer.figures.spell;
-    let shift = answer.figures.shift;
-    let heading = Heading {
-        moves: moves as u32,
-        arrival,
-        spell,
-        shift,
-        labels: n as u32,
-    };
+    let labels = n as u32;
+    let heading = sheets::heading_for(moves as u32, answer, labels);
     sheets::put_heading(sheet, heading);
-    Planning::Planned {
-        labels: heading.labels,
-        arrival,
-    }
+    let arrival = answer.clock;
+    Planning::Planned { labels, arrival }
 }
 
 // The plan of a search that found an answer: refused where the sheet is short (14), else written to it.

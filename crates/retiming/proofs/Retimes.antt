@@ -17,7 +17,7 @@ use Rattle.driving.specs.Order.{orderOf}
 use Rattle.moves.specs.Opened.{runTests}
 use Rattle.states.specs.declared.State.{State}
 use Rattle.sheets.specs.declared.Heading.{Heading}
-use Rattle.sheets.specs.Sheet.{headingOf, sheetNeeded, sheetAfter, withHeading, shortSheet}
+use Rattle.sheets.specs.Sheet.{headingFor, headingOf, sheetNeeded, sheetAfter, withHeading, shortSheet}
 use Rattle.sheets.specs.Written.{rowsPut}
 use Rattle.sheets.proofs.Writing.{heading-last}
 use Rattle.sheets.proofs.Reading.{length-rows-of}
@@ -30,8 +30,7 @@ use Rattle.retiming.proofs.Rewriting.{reached-is, walk-length}
 
 -- the header with true figures
 abbrev pub retimedHeading : Heading → State → Heading
-retimedHeading given s =
-    record { moves = given .moves; arrival = s .clock; spell = s .figures .spell; shift = s .figures .shift; labels = given .labels }
+retimedHeading given s = headingFor (given .moves) s (given .labels)
 
 module _ (map : List ℕ) (order : Order) (sheet before : List ℕ) where
   abbrev timed : Walk

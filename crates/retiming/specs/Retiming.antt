@@ -18,7 +18,7 @@ use Rattle.moves.specs.Trip.{tripOf}
 use Rattle.states.specs.States.{startOf}
 use Rattle.moves.specs.Opened.{runTests}
 use Rattle.sheets.specs.declared.Heading.{Heading}
-use Rattle.sheets.specs.Sheet.{headingOf, rowsOf, sheetAfter, shortSheet, tornSheet}
+use Rattle.sheets.specs.Sheet.{headingFor, headingOf, rowsOf, sheetAfter, shortSheet, tornSheet}
 use Rattle.retiming.specs.Walk.{Walk, refused, reached, walk, moveTest, stray, arrivalReached}
 
 abbrev pub movesOn : List ℕ → ℕ
@@ -48,17 +48,7 @@ retimingReply map order sheet out =
 -- the same moves with true figures, N copied
 abbrev pub retimedTo : Heading → Walk → List ℕ → List ℕ
 retimedTo heading (refused number move) out = out
-retimedTo heading (reached s rows) out =
-    sheetAfter
-    (record {
-      moves = heading .moves;
-      arrival = s .clock;
-      spell = s .figures .spell;
-      shift = s .figures .shift;
-      labels = heading .labels;
-    })
-    rows
-    out
+retimedTo heading (reached s rows) out = sheetAfter (headingFor (heading .moves) s (heading .labels)) rows out
 
 -- the other sheet afterwards: a refusal leaves it
 abbrev pub retimedSheet : List ℕ → List ℕ → List ℕ → List ℕ → List ℕ

@@ -194,17 +194,9 @@ fn retime_run(map: &[u8], run: Run, sheet: &[u8], out: &mut [u8]) -> Timing
                 return Timing::Refused(Refusal::ShortSheet(needed));
             }
             write_rows(map, run, sheet, out);
-            let arrival = state.clock;
-            let spell = state.figures.spell;
-            let shift = state.figures.shift;
-            let heading = Heading {
-                moves: given.moves,
-                arrival,
-                spell,
-                shift,
-                labels: given.labels,
-            };
+            let heading = sheets::heading_for(given.moves, state, given.labels);
             sheets::put_heading(out, heading);
+            let arrival = state.clock;
             Timing::Timed {
                 moves: given.moves,
                 arrival,

@@ -8,6 +8,7 @@ use lib.Dec.{ltb, eqb}
 use lib.ListN.{length, take, drop}
 use Rattle.words.specs.Word.{wordAt}
 use Rattle.replies.specs.First.{placed}
+use Rattle.states.specs.declared.State.{State}
 use Rattle.sheets.specs.declared.Heading.{Heading}
 use Rattle.sheets.specs.declared.Row.{Row}
 
@@ -29,6 +30,11 @@ sheetNeeded m = headerBytes + recordBytes * m
 unfoldable pub headingBytes : Heading → List ℕ
 headingBytes h =
     wordBytes (h .moves) ++ wordBytes (h .arrival .0) ++ wordBytes (h .spell .0) ++ wordBytes (h .shift .0) ++ wordBytes (h .labels)
+
+-- of so many moves to a state, with N
+abbrev pub headingFor : ℕ → State → ℕ → Heading
+headingFor moves s labels =
+    record { moves = moves; arrival = s .clock; spell = s .figures .spell; shift = s .figures .shift; labels = labels }
 
 abbrev pub headingOf : List ℕ → Heading
 headingOf sheet =

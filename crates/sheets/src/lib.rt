@@ -3,9 +3,10 @@
 ghost use mathlib.Core.Path.{_≡_};
 ghost use Prim.Native.Nat.{_*_, _≤_};
 ghost use lib.ListN.{length};
-ghost use Rattle.sheets.specs.Sheet.{headerBytes, recordBytes, sheetNeeded, headingOf, rowAt, torn, withHeading, withRowBehind, withRow};
+ghost use Rattle.sheets.specs.Sheet.{headerBytes, recordBytes, sheetNeeded, headingFor, headingOf, rowAt, torn, withHeading, withRowBehind, withRow};
 use seconds::Clock;
 use seconds::Wheel;
+use states::State;
 use words::put_word;
 use words::word;
 
@@ -40,6 +41,22 @@ pub fn sheet_needed(moves: u32) -> usize
     ensures { λ r. ⌜ r ≡ sheetNeeded moves ⌝ }
 {
     Heading::BYTES + Row::BYTES * (moves as usize)
+}
+
+// The header of so many moves to a state, with the label count.
+pub fn heading_for(moves: u32, state: State, labels: u32) -> Heading
+    ensures { λ r. ⌜ r ≡ headingFor moves state labels ⌝ }
+{
+    let arrival = state.clock;
+    let spell = state.figures.spell;
+    let shift = state.figures.shift;
+    Heading {
+        moves,
+        arrival,
+        spell,
+        shift,
+        labels,
+    }
 }
 
 pub fn read_heading(sheet: &[u8]) -> Heading

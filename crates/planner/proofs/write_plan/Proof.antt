@@ -4,21 +4,26 @@ use Rattle.planner.proofs.Handing.{moves-below, handed-written}
 use Rattle.planner.proofs.write_plan.Statement.{statement}
 use Rattle.planner.proofs.write_plan.Tie as tie
 
-cast-t15 : tie.Need-cast-t15
-cast-t15 c =
-    let read = c .before .before .before in
-    let s = read .before .before .before .before .before .before .before .before in
+cast-heading-for : tie.Need-cast-heading-for
+cast-heading-for c =
+    let s = c .before .before .before .before .before .before .before .before in
     let a = s .args in
     omega (arith, s .pre .1 .0, s .pre .1 .1 .0, moves-below (a .map .now) (a .run) (a .words .now) (a .n) (s .pre .0))
 
+put-heading-requires : tie.Need-put-heading-requires
+put-heading-requires c κs =
+    let s = c .before .before .before .before .before .before .before .before .before .before in
+    omega (arith, c .before .before .before .before .sheet .given, s .pre .1 .1 .1)
+
 returns : tie.Need-returns
 returns c =
-    let put = c .before .before in
-    let read = put .before .before .before .before .before in
+    let put = c .before .before .before in
+    let made = put .before .before in
+    let read = made .before in
     let wrote = read .before .before .before in
     let s = wrote .before .before .before .before .before in
     let a = s .args in
-    handed-written (a .map .now) (a .run) (a .words .now) (a .n) (s .pre .0) (a .moves) (s .pre .1 .1 .0) (a .sheet .now) (s .pre .1 .1 .1) (read .read-label .result) (read .read-label .ensures) _ _ (wrote .write-moves .ensures) (put .put-heading .ensures)
+    handed-written (a .map .now) (a .run) (a .words .now) (a .n) (s .pre .0) (a .moves) (s .pre .1 .1 .0) (a .sheet .now) (s .pre .1 .1 .1) (read .read-label .result) (read .read-label .ensures) (made .heading-for .result) (made .heading-for .ensures) _ _ (wrote .write-moves .ensures) (put .put-heading .ensures)
 
 pub write-plan-spec : {M : Type 1} → statement M
 write-plan-spec =
@@ -26,8 +31,9 @@ write-plan-spec =
     (tie.spec
     (λ c κs. search needs)
     (λ c κs. search needs)
-    cast-t15
     (λ c. search needs)
+    cast-heading-for
     (λ c κs. search needs)
+    put-heading-requires
     (λ c. search needs)
     returns)

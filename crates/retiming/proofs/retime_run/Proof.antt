@@ -1,5 +1,5 @@
 use borrow.Author.Needs.{needs}
-use mathlib.Core.Path.{_∙_, ap, subst}
+use mathlib.Core.Path.{_∙_, ap, ap₂, subst}
 use mathlib.Core.Bool.{false}
 use mathlib.Core.List.{List}
 use Prim.Native.Nat.{ℕ}
@@ -9,7 +9,7 @@ use Rattle.sheets.specs.Sheet.{withHeading}
 use Rattle.retiming.specs.declared.Walked.{Walked}
 use Rattle.retiming.specs.Retiming.{timing}
 use Rattle.retiming.specs.Parts.{SheetSays}
-use Rattle.retiming.proofs.Retimes.{retimedHeading, retimed-refused, retimed-short, retimed-written}
+use Rattle.retiming.proofs.Retimes.{retimed-refused, retimed-short, retimed-written}
 use Rattle.retiming.proofs.Rewriting.{says-ends}
 use Rattle.retiming.proofs.retime_run.Statement.{statement}
 use Rattle.retiming.proofs.retime_run.Tie as tie
@@ -50,14 +50,15 @@ returns-2 c =
 
 returns-3 : tie.Need-returns-3
 returns-3 c =
-    let put = c .before .before in
-    let wrote = put .before .before .before .before .before .before .before in
+    let put = c .before .before .before in
+    let made = put .before .before in
+    let wrote = made .before .before .before in
     let chosen = wrote .before .before in
     let read = chosen .before .before in
     let reached = read .before in
     let args = reached .before .before .before .before .before .before .before .args in
     retimed-written (args .map .now) (args .run .order) (args .sheet .now) (args .out .now) (reached .before .judged2 .given .0 .0) (ended reached) (read .read-heading .result) (read .read-heading .ensures) (chosen .before .sheet-needed .result) (chosen .before .sheet-needed .ensures) (chosen .if1 .left) (put .put-heading .last .0)
-    (put .put-heading .ensures ∙ ap (λ (l : List ℕ). withHeading l (retimedHeading (read .read-heading .result) (reached .before .judged2 .given .0 .0))) (wrote .write-rows .ensures))
+    (put .put-heading .ensures ∙ ap₂ (λ (l : List ℕ) (h : Heading). withHeading l h) (wrote .write-rows .ensures) (made .heading-for .ensures))
 
 pub retime-run-spec : {M : Type 1} → statement M
 retime-run-spec =
@@ -70,6 +71,7 @@ retime-run-spec =
     (λ c κs. search needs)
     returns
     write-rows-requires
+    (λ c κs. search needs)
     (λ c κs. search needs)
     returns-2
     (λ c. search needs)
