@@ -1,4 +1,4 @@
--- The laws of the order check that callers cite.
+-- The laws of the order check and of the driver's figures that callers cite.
 pub mod Accepted
 pub mod Hours
 pub mod Broken

@@ -1,4 +1,4 @@
--- The definitions of the theory of a label-setting search over any type of states.
+-- The definitions of the theory of a label-setting search over any type of states, and of lists of figures compared.
 -- Assumes nothing.
 pub mod Lists
 pub mod States
