@@ -30,6 +30,10 @@ firstPause = 2
 abbrev pub lastPause : ℕ
 lastPause = 3
 
+-- how many they are
+abbrev pub pauseCount : ℕ
+pauseCount = lastPause + 1 - firstPause
+
 -- what a pause adds to the clock, by kind
 abbrev pub pauseTimes : Rules → List ℕ
 pauseTimes r = r .«break_time» .0 ∷ r .«rest_time» .0 ∷ []

@@ -4,16 +4,16 @@ use mathlib.Core.Bool.{Bool, true, false}
 use mathlib.Core.List.{List, [], _∷_, _++_, List·Memᴰ, List·Memᴰ·append-cases, List·Memᴰ·cases-cons, List·Memᴰ·head, List·Memᴰ·tail, List·Memᴰ·not-nil}
 use mathlib.Core.Logic.{_⊎_, inl, inr, ⊎-elim}
 use mathlib.Core.Option.{some}
-use Prim.Native.Nat.{ℕ, zero, suc, _+_, _-_, _≤_, _<_}
+use Prim.Native.Nat.{ℕ, zero, suc, _+_, _-_, _<_}
 use native.Mathlib.Omega.{arith}
 use Rattle.booleans.proofs.Tests.{cases, not-both, and-true, T-true, true-T}
-use Rattle.driving.specs.Hours.{firstPause, lastPause}
+use Rattle.driving.specs.Hours.{firstPause, pauseCount}
 use Rattle.states.specs.declared.State.{State}
 use Rattle.moves.specs.declared.Move.{Move}
 use Rattle.moves.specs.Trip.{Trip, counted, roadsIn}
 use Rattle.moves.specs.Moves.{move, leaves, mayPause, chosen, offers, offered, after}
 use Rattle.states.specs.States.{legal, sameState}
-use Rattle.moves.proofs.Offered.{offered-in, offered-from}
+use Rattle.moves.proofs.Offered.{counted-low, chosen-from, offered-in, offered-from}
 use Rattle.journeys.specs.Journeys.{succs}
 use Rattle.journeys.specs.Plan.{movesTo, firstTo, moveTo}
 use Rattle.states.proofs.Compared.{same-decides}
@@ -38,22 +38,6 @@ order-append (order-cons {m = m} {ms = ms} b p) q f =
 
 -- moves made of rising numbers stand in order, where a lower number makes a move before
 module _ (test : ℕ → Bool) (made : ℕ → Move) where
-  chosen-from : (k n : ℕ) {m : Move} → List·Memᴰ m (chosen test made (counted (λ r. r) k n)) → (r : ℕ) × (m ≡ made r) × (k ≤ r)
-  unfolding chosen counted
-  chosen-from k zero at = absurd (List·Memᴰ·not-nil at)
-  chosen-from k (suc n) {m} at =
-      ⊎-elim
-      (λ (kept : test k ≡ true).
-      ⊎-elim
-      (λ (same : m ≡ made k). (k, same, omega arith))
-      (λ (later : List·Memᴰ m (chosen test made (counted (λ r. r) (k + 1) n))). up (chosen-from (k + 1) n later))
-      (List·Memᴰ·cases-cons (rw (kept, chosen) at at)))
-      (λ (dropped : test k ≡ false). up (chosen-from (k + 1) n (rw (dropped, chosen) at at)))
-      (cases (test k))
-    where
-      up : (r : ℕ) × (m ≡ made r) × (k + 1 ≤ r) → (r : ℕ) × (m ≡ made r) × (k ≤ r)
-      up f = (f .0, f .1, omega (arith, f .2))
-
   chosen-order : ((x y : ℕ) → x < y → Before (made x) (made y)) → (k n : ℕ) → InOrder (chosen test made (counted (λ r. r) k n))
   unfolding chosen counted
   chosen-order rises k zero = order-nil
@@ -62,7 +46,7 @@ module _ (test : ℕ → Bool) (made : ℕ → Move) where
       (λ (kept : test k ≡ true).
       rw (kept, chosen)
       (order-cons {m = made k}
-      (λ m at. let f = chosen-from (k + 1) n at in subst (Before (made k)) (sym (f .1)) (rises k (f .0) (omega (arith, f .2))))
+      (λ m at. let f = chosen-from test made (counted (λ r. r) (k + 1) n) at in subst (Before (made k)) (sym (f .1)) (rises k (f .0) (omega (arith, counted-low (k + 1) n (f .3)))))
       (chosen-order rises (k + 1) n)))
       (λ (dropped : test k ≡ false). rw (dropped, chosen) (chosen-order rises (k + 1) n))
       (cases (test k))
@@ -71,11 +55,11 @@ module _ (test : ℕ → Bool) (made : ℕ → Move) where
 pub offered-order : (trip : Trip) (s : State) → InOrder (offered trip s)
 unfolding offered
 offered-order trip s =
-    order-append (chosen-order drives (move 1) (λ x y h. number-below refl h) 1 (roadsIn trip)) (chosen-order pauses pausing (λ x y h. kind-below h) firstPause (lastPause - 1))
+    order-append (chosen-order drives (move 1) (λ x y h. number-below refl h) 1 (roadsIn trip)) (chosen-order pauses pausing (λ x y h. kind-below h) firstPause pauseCount)
     (λ m n at bt.
-    let f = chosen-from drives (move 1) 1 (roadsIn trip) at in
-    let g = chosen-from pauses pausing firstPause (lastPause - 1) bt in
-    kind-below (omega (arith, ap (λ (x : Move). x .kind) (f .1), ap (λ (x : Move). x .kind) (g .1), g .2)))
+    let f = chosen-from drives (move 1) (counted (λ r. r) 1 (roadsIn trip)) at in
+    let g = chosen-from pauses pausing (counted (λ k. k) firstPause pauseCount) bt in
+    kind-below (omega (arith, ap (λ (x : Move). x .kind) (f .1), ap (λ (x : Move). x .kind) (g .1), counted-low firstPause pauseCount (g .3))))
   where
     drives : ℕ → Bool
     drives = leaves trip (s .junction)

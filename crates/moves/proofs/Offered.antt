@@ -9,7 +9,7 @@ use native.Mathlib.Nat.{eq-or-lt-of-le}
 use borrow.Author.Tests.{leb-true, eqb-true, eq-eqb, ne-eqb}
 use lib.Dec.{leb, eqb}
 use Rattle.booleans.proofs.Tests.{cases, and-true}
-use Rattle.driving.specs.Hours.{firstPause, lastPause}
+use Rattle.driving.specs.Hours.{firstPause, lastPause, pauseCount}
 use Rattle.states.specs.declared.State.{State}
 use Rattle.moves.specs.declared.Move.{Move}
 use Rattle.moves.specs.Trip.{Trip, counted, roadsIn}
@@ -24,6 +24,15 @@ counted-mem k (suc n) r low high =
     (λ (same : k ≡ r). List·Memᴰ·head (sym same))
     (λ (later : k < r). List·Memᴰ·tail (counted-mem (k + 1) n r (omega arith) (omega arith)))
     (eq-or-lt-of-le low)
+
+pub counted-low : (k n : ℕ) {r : ℕ} → List·Memᴰ r (counted (λ r. r) k n) → k ≤ r
+unfolding counted
+counted-low k zero at = absurd (List·Memᴰ·not-nil at)
+counted-low k (suc n) {r} at =
+    ⊎-elim
+    (λ (same : r ≡ k). omega arith)
+    (λ (later : List·Memᴰ r (counted (λ r. r) (k + 1) n)). omega (arith, counted-low (k + 1) n later))
+    (List·Memᴰ·cases-cons at)
 
 -- the moves chosen are those of the numbers that pass
 module _ (test : ℕ → Bool) (made : ℕ → Move) where
@@ -40,18 +49,21 @@ module _ (test : ℕ → Bool) (made : ℕ → Move) where
       (cases (test x)))
       (List·Memᴰ·cases-cons at)
 
-  chosen-from : (ns : List ℕ) {m : Move} → List·Memᴰ m (chosen test made ns) → (n : ℕ) × (m ≡ made n) × (test n ≡ true)
+  pub chosen-from : (ns : List ℕ) {m : Move} → List·Memᴰ m (chosen test made ns) → (n : ℕ) × (m ≡ made n) × (test n ≡ true) × List·Memᴰ n ns
   unfolding chosen
   chosen-from [] at = absurd (List·Memᴰ·not-nil at)
   chosen-from (x ∷ ns) {m} at =
       ⊎-elim
       (λ (kept : test x ≡ true).
       ⊎-elim
-      (λ (same : m ≡ made x). (x, same, kept))
-      (λ (later : List·Memᴰ m (chosen test made ns)). chosen-from ns later)
+      (λ (same : m ≡ made x). (x, same, kept, List·Memᴰ·head refl))
+      (λ (later : List·Memᴰ m (chosen test made ns)). further (chosen-from ns later))
       (List·Memᴰ·cases-cons (rw (kept, chosen) at at)))
-      (λ (dropped : test x ≡ false). chosen-from ns (rw (dropped, chosen) at at))
+      (λ (dropped : test x ≡ false). further (chosen-from ns (rw (dropped, chosen) at at)))
       (cases (test x))
+    where
+      further : (n : ℕ) × (m ≡ made n) × (test n ≡ true) × List·Memᴰ n ns → (n : ℕ) × (m ≡ made n) × (test n ≡ true) × List·Memᴰ n (x ∷ ns)
+      further f = (f .0, f .1, f .2, List·Memᴰ·tail (f .3))
 
 -- a pause of a kind from the first to the last
 pub pause-range : (trip : Trip) (s : State) (kind : ℕ) → mayPause trip s kind ≡ true → (firstPause ≤ kind) × (kind ≤ lastPause)
@@ -88,7 +100,7 @@ module _ (trip : Trip) (s : State) where
   here-drives = chosen (leaves trip (s .junction)) (move 1) (counted (λ r. r) 1 (roadsIn trip))
 
   abbrev here-pauses : List Move
-  here-pauses = chosen (mayPause trip s) (λ kind. move kind (s .junction)) (counted (λ k. k) firstPause (lastPause - 1))
+  here-pauses = chosen (mayPause trip s) (λ kind. move kind (s .junction)) (counted (λ k. k) firstPause pauseCount)
 
   pub offered-in : (m : Move) → offers trip s m ≡ true → List·Memᴰ m (offered trip s)
   unfolding offered
@@ -104,7 +116,7 @@ module _ (trip : Trip) (s : State) where
           let range = pause-range trip s (m .kind) may in
           Memᴰ·append-right here-drives
           (subst (λ (x : Move). List·Memᴰ x here-pauses) (sym is)
-          (chosen-in (mayPause trip s) (λ kind. move kind (s .junction)) _ (counted-mem firstPause (lastPause - 1) (m .kind) (range .0) (omega (arith, range .1))) may))
+          (chosen-in (mayPause trip s) (λ kind. move kind (s .junction)) _ (counted-mem firstPause pauseCount (m .kind) (range .0) (omega (arith, range .1))) may))
 
   pub offered-from : (m : Move) → List·Memᴰ m (offered trip s) → offers trip s m ≡ true
   unfolding offered
@@ -114,6 +126,6 @@ module _ (trip : Trip) (s : State) where
       let found = chosen-from _ _ (counted (λ r. r) 1 (roadsIn trip)) drive in
       rw (found .1) (offers-drive (found .0) (found .2)))
       (λ pause.
-      let found = chosen-from (mayPause trip s) (λ kind. move kind (s .junction)) (counted (λ k. k) firstPause (lastPause - 1)) pause in
+      let found = chosen-from (mayPause trip s) (λ kind. move kind (s .junction)) (counted (λ k. k) firstPause pauseCount) pause in
       rw (found .1) (offers-pause (found .0) (found .2)))
       (List·Memᴰ·append-cases here-drives at)

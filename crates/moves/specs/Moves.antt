@@ -1,10 +1,10 @@
 -- The moves: which are offered, and what they lead to. Document 01, "Moves". Assumes nothing.
 use mathlib.Core.Bool.{Bool, true, false, _&&_}
 use mathlib.Core.List.{List, [], _∷_, _++_}
-use Prim.Native.Nat.{ℕ, _+_, _-_}
+use Prim.Native.Nat.{ℕ, _+_}
 use lib.Dec.{leb, eqb}
 use Rattle.driving.specs.declared.Rules.{Rules}
-use Rattle.driving.specs.Hours.{drivenOn, firstPause, lastPause, pauseSeconds, cleared}
+use Rattle.driving.specs.Hours.{drivenOn, firstPause, lastPause, pauseCount, pauseSeconds, cleared}
 use Rattle.states.specs.declared.State.{State}
 use Rattle.states.specs.States.{legal}
 use Rattle.moves.specs.declared.Move.{Move}
@@ -74,7 +74,7 @@ unfoldable pub offered : Trip → State → List Move
 unfolding chosen counted
 offered trip s =
     chosen (leaves trip (s .junction)) (move 1) (counted (λ r. r) 1 (roadsIn trip))
-    ++ chosen (mayPause trip s) (λ kind. move kind (s .junction)) (counted (λ k. k) firstPause (lastPause - 1))
+    ++ chosen (mayPause trip s) (λ kind. move kind (s .junction)) (counted (λ k. k) firstPause pauseCount)
 
 -- one move: not offered, not legal, or the state after it
 abbrev pub judged : Bool → Bool → State → Step
