@@ -207,7 +207,7 @@ def in_t(offset, *values):
 refused("short map", T[:15], order(), 1, 15)
 refused("no map, no order, no label space, no sheet", b"", b"", 1, 0, label_words=0, length=0)
 refused("strange map", in_t(0, 2), order(), 2, 0)
-refused("oversize", in_t(8, 262144), order(), 3, 8)
+refused("oversize", in_t(8, 40961), order(), 3, 8)
 refused("misfit", T + b"x", order(), 4, 133)
 refused("bad junction", in_t(36, 2), order(), 5, 2)
 refused("bad road", in_t(76, 4), order(), 6, 1)

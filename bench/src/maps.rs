@@ -3,15 +3,12 @@
 use other::make::practice::{draw, practice_map, USUAL_START};
 use other::map::{Junction, Map, Road};
 
-/// The most junctions that a map may have.
-pub const MOST_JUNCTIONS: u64 = 65_535;
-
 pub struct NamedMap {
     pub name: String,
     pub bytes: Vec<u8>,
 }
 
-/// The practice map of document 02 (P14) and its usual start; by the same recipe also larger ones.
+/// The practice map of document 02 (P14) and its usual start.
 pub fn practice(junctions: u64) -> NamedMap {
     NamedMap {
         name: format!("practice {junctions}"),

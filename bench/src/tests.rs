@@ -5,7 +5,7 @@ use other::case_probes::AMPLE_WORDS;
 use other::make::orders::MOST_STATES;
 use other::make::random::Random;
 use other::make::{case, Run};
-use other::mapcheck::check_map;
+use other::mapcheck::{check_map, MOST_JUNCTIONS};
 use other::moves::Trip as SmallTrip;
 use other::operations::DOCUMENT;
 use other::order::Order;
@@ -15,7 +15,7 @@ use other::sheet::sheet_bytes;
 
 use crate::answer::Answer;
 use crate::journeys::wander;
-use crate::maps::{grid, practice, NamedMap, MOST_JUNCTIONS};
+use crate::maps::{grid, practice, NamedMap};
 use crate::ordinary::{self, Ordinary};
 use crate::strong::heap::Heap;
 use crate::strong::{self, Strong};

@@ -1,5 +1,6 @@
 //! What both planners know of an order: its figures, states, and what moves lead to.
 
+use other::mapcheck::MOST_ROADS;
 use other::moves::{Move, BREAK, DRIVE, REST};
 use other::order::Order;
 use other::sheet::{Record, Sheet};
@@ -16,8 +17,8 @@ pub struct State {
 /// A move as one number: a road's number, or a pause. The numbers rise by kind, then by road.
 pub type Step = u32;
 
-pub const BREAK_STEP: Step = 262_144; // above every road's number
-pub const REST_STEP: Step = 262_145;
+pub const BREAK_STEP: Step = MOST_ROADS as Step + 1; // above every road's number
+pub const REST_STEP: Step = BREAK_STEP + 1;
 
 /// An accepted order's figures.
 #[derive(Clone, Copy, Debug)]

@@ -1,13 +1,17 @@
 //! A tentative label as one number. Keys are in the order of rank; of those with one state the
 //! lowest parent, then its lowest move comes first.
 
-use crate::trip::{State, Step};
+use other::mapcheck::MOST_JUNCTIONS;
 
-// The fields from the lowest bits up. The clock's 31 bits are above them: 126 in all.
-const STEP_BITS: u32 = 19;
+use crate::trip::{State, Step, REST_STEP};
+
+// The fields from the lowest bits up. The clock's 31 bits are above them: 121 in all.
+const STEP_BITS: u32 = 16;
 const PARENT_BITS: u32 = 20;
-const JUNCTION_BITS: u32 = 16;
+const JUNCTION_BITS: u32 = 14;
 const FIGURE_BITS: u32 = 20;
+
+const _: () = assert!(REST_STEP >> STEP_BITS == 0 && MOST_JUNCTIONS >> JUNCTION_BITS == 0);
 
 const PARENT_AT: u32 = STEP_BITS;
 const JUNCTION_AT: u32 = PARENT_AT + PARENT_BITS;

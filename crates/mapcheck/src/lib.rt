@@ -260,7 +260,7 @@ fn broken_chain(map: &[u8], sizes: Sizes) -> Found
     requires { ⌜ MapLinks (now map) ⌝ }
     ensures { λ r. ⌜ found r ≡ brokenChain (now (map .entry)) ⌝ }
 {
-    let mut due = [0u32; 65536];
+    let mut due = [0u32; Sizes::JUNCTION_ENTRIES];
     let least = begin_chains(map, sizes, &mut due);
     follow_chains(map, sizes, &mut due, least)
 }

@@ -22,12 +22,12 @@ roadCount map = wordAt map 8
 unfoldable pub nameBytes : List ℕ → ℕ
 nameBytes map = wordAt map 12
 
--- the largest counts
+-- the largest counts; those of junctions and roads are document 02's (P1)
 abbrev pub mostJunctions : ℕ
-mostJunctions = 65535
+mostJunctions = 12288
 
 abbrev pub mostRoads : ℕ
-mostRoads = 262143
+mostRoads = 40960
 
 abbrev pub mostNameBytes : ℕ
 mostNameBytes = 1048576

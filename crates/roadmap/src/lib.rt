@@ -16,11 +16,14 @@ pub struct Sizes {
 impl Sizes {
     pub const HEADER_BYTES: usize = 16;
 
-    pub const MOST_JUNCTIONS: u32 = 65535;
+    pub const MOST_JUNCTIONS: u32 = 12288;
 
-    pub const MOST_ROADS: u32 = 262143;
+    pub const MOST_ROADS: u32 = 40960;
 
     pub const MOST_NAMES: u32 = 1048576;
+
+    // The length of an array with an entry for each junction of any map; entry 0 is no junction's.
+    pub const JUNCTION_ENTRIES: usize = Sizes::MOST_JUNCTIONS as usize + 1;
 }
 
 // A junction's four words: its first road, whether it is a car park, where its name starts and how

@@ -21,6 +21,7 @@ ghost use Rattle.search.specs.Beginning.{AllAre, Begun};
 ghost use Rattle.search.specs.Searched.{Searched};
 use candidates::Bound;
 use moves::Run;
+use roadmap::Sizes;
 use states::State;
 
 const LARGEST_WORD: u32 = 4294967295;
@@ -300,9 +301,9 @@ fn search_labels(map: &[u8], run: Run, words: &mut [u32], fit: usize) -> Outcome
     requires { ⌜ (1 ≤ fit) × (fit ≤ mostLabels) × (labelWords * fit ≤ length (now words)) ⌝ }
     ensures { λ r. ⌜ OutcomeSays (now (map .entry)) run fit (now (words .exit)) r ⌝ }
 {
-    let mut heads = [0u32; 65536];
-    let mut spells = [0u32; 65536];
-    let mut shifts = [0u32; 65536];
+    let mut heads = [0u32; Sizes::JUNCTION_ENTRIES];
+    let mut spells = [0u32; Sizes::JUNCTION_ENTRIES];
+    let mut shifts = [0u32; Sizes::JUNCTION_ENTRIES];
     clear_lists(&mut heads, &mut spells, &mut shifts);
     begin(map, run, words, &mut heads, &mut spells, &mut shifts);
     if run.order.source == run.order.target {

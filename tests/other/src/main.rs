@@ -7,7 +7,8 @@ use std::time::Instant;
 
 use other::compare::{compare, compare_random};
 use other::listing::listings;
-use other::make::practice::{practice_map, MOST_JUNCTIONS};
+use other::make::practice::practice_map;
+use other::mapcheck::MOST_JUNCTIONS;
 use other::operations::DOCUMENT;
 use other::self_test::tests;
 use other::summary::summary;
@@ -69,7 +70,7 @@ fn self_test() -> Result<(), String> {
 fn write_practice(junctions: &str, start: &str, file: &str) -> Result<(), String> {
     let (junctions, start): (u64, u32) = (number(junctions)?, number(start)?);
     if start == 0 || !(1..=MOST_JUNCTIONS).contains(&junctions) {
-        return Err("J is 1 to 12,288 and START is not 0".to_string());
+        return Err(format!("J is 1 to {MOST_JUNCTIONS} and START is not 0"));
     }
     let bytes = practice_map(junctions, start).bytes();
     std::fs::write(file, &bytes).map_err(|error| format!("{file}: {error}"))?;

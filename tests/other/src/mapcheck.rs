@@ -4,9 +4,9 @@ use crate::map::{length_needed, Junction, Map, Road, HEADER_BYTES};
 use crate::reply::*;
 use crate::words::word;
 
-const MOST_JUNCTIONS: u64 = 65_535;
-const MOST_ROADS: u64 = 262_143;
-const MOST_NAME_BYTES: u64 = 1_048_576;
+pub const MOST_JUNCTIONS: u64 = 12_288;
+pub const MOST_ROADS: u64 = 40_960;
+pub const MOST_NAME_BYTES: u64 = 1_048_576;
 const LONGEST_NAME: u64 = 32;
 
 pub fn check_map(bytes: &[u8]) -> Reply {

@@ -1,10 +1,11 @@
-//! Single large calls that random cases never make: the greatest counts of document 01.
+//! Single large calls that random cases never make: the greatest counts, and one more.
 
 use crate::case_probes::AMPLE_WORDS;
 use crate::make::orders::tame;
-use crate::make::practice::{practice_map, MOST_JUNCTIONS, USUAL_START};
+use crate::make::practice::{practice_map, USUAL_START};
 use crate::make::Run;
 use crate::map::{Junction, Map, Road};
+use crate::mapcheck::{MOST_JUNCTIONS, MOST_NAME_BYTES, MOST_ROADS};
 use crate::moves::{Move, Trip, DRIVE};
 use crate::order::{Order, EUROPEAN_RULES};
 use crate::planning::{MOST_LABELS, WORDS_OF_A_LABEL};
@@ -13,6 +14,7 @@ use crate::sheet::{Record, Sheet, MOST_MOVES};
 
 pub fn probes() -> Vec<Probe> {
     let mut probes = largest_map_probes();
+    probes.extend(oversize_map_probes());
     probes.extend(longest_sheet_probes());
     probes.push(label_space_to_spare());
     probes.push(shared_chain());
@@ -22,7 +24,7 @@ pub fn probes() -> Vec<Probe> {
 
 /// The largest map, sound and with a fault at its very end.
 fn largest_map_probes() -> Vec<Probe> {
-    let sound = largest_map();
+    let sound = wide_map(MOST_JUNCTIONS, MOST_ROADS);
     let mut off_its_chain = sound.clone();
     let last = off_its_chain.roads.len() - 1;
     off_its_chain.roads[last].from = 1;
@@ -34,8 +36,9 @@ fn largest_map_probes() -> Vec<Probe> {
         },
         Probe::Name {
             map: sound.bytes(),
-            junction: 65_535,
+            junction: MOST_JUNCTIONS as u32,
         },
+        plan_to_the_last_junction(sound.bytes()),
     ];
     for map in [sound, off_its_chain, bad_letter] {
         probes.push(Probe::CheckMap { map: map.bytes() });
@@ -43,8 +46,31 @@ fn largest_map_probes() -> Vec<Probe> {
     probes
 }
 
-fn largest_map() -> Map {
-    let (junctions, roads, name_bytes) = (65_535, 262_143, 1_048_576);
+/// Whole maps, sound but for one junction or one road too many.
+fn oversize_map_probes() -> Vec<Probe> {
+    let calls = |(junctions, roads)| {
+        let map = wide_map(junctions, roads).bytes();
+        [
+            Probe::CheckMap { map: map.clone() },
+            Probe::MakeChains { map: map.clone() },
+            plan_to_the_last_junction(map),
+        ]
+    };
+    [
+        (MOST_JUNCTIONS + 1, MOST_ROADS),
+        (MOST_JUNCTIONS, MOST_ROADS + 1),
+    ]
+    .into_iter()
+    .flat_map(calls)
+    .collect()
+}
+
+/// With it the last road of the largest map leads to its last junction.
+const STEP_OF_WIDE_MAP: u64 = 8_191;
+
+/// A map whose roads all lead the same number of junctions on, the last ones the shortest, with as
+/// many name bytes as a map may have.
+fn wide_map(junctions: u64, roads: u64) -> Map {
     let junction = |number: u64| Junction {
         first: 0,
         car_park: number % 2,
@@ -53,18 +79,52 @@ fn largest_map() -> Map {
     };
     let road = |number: u64| Road {
         from: 1 + number % junctions,
-        to: 1 + number * 7 % junctions,
-        metres: 1 + number,
+        to: 1 + (number + STEP_OF_WIDE_MAP) % junctions,
+        metres: roads + 1 - number,
         speed: 80,
         next: 0,
     };
     let mut map = Map {
         junctions: (1..=junctions).map(junction).collect(),
         roads: (1..=roads).map(road).collect(),
-        names: vec![b'n'; name_bytes],
+        names: vec![b'n'; MOST_NAME_BYTES as usize],
     };
     map.link_chains();
     map
+}
+
+/// In the largest map two drives, by roads 32,769 and 40,960: 8,192 metres and 1 metre.
+fn plan_to_the_last_junction(map: Vec<u8>) -> Probe {
+    let order = Order {
+        source: 8_194,
+        target: MOST_JUNCTIONS,
+        latest: 1_500,
+        ..european_order()
+    };
+    plan_with_ample_space(map, &order)
+}
+
+fn plan_with_ample_space(map: Vec<u8>, order: &Order) -> Probe {
+    Probe::Plan {
+        run: Run {
+            map,
+            order: order.bytes(),
+        },
+        labels: vec![0xA5A5_A5A5; AMPLE_WORDS],
+        sheet: vec![0xEE; 1_000],
+    }
+}
+
+/// The patient order with the European figures.
+fn european_order() -> Order {
+    let [spell_limit, break_time, shift_limit, rest_time] = EUROPEAN_RULES;
+    Order {
+        spell_limit,
+        break_time,
+        shift_limit,
+        rest_time,
+        ..patient_order()
+    }
 }
 
 /// As many drives round a road of one second as a sheet may hold, and one more.
@@ -183,26 +243,14 @@ fn shared_chain() -> Probe {
 
 /// The largest practice map, with so near a latest that few states are reachable.
 fn largest_practice_map() -> Probe {
-    let [spell_limit, break_time, shift_limit, rest_time] = EUROPEAN_RULES;
     let mut trip = Trip {
         map: practice_map(MOST_JUNCTIONS, USUAL_START),
         order: Order {
             target: 4,
             latest: 30_000,
-            spell_limit,
-            break_time,
-            shift_limit,
-            rest_time,
-            ..patient_order()
+            ..european_order()
         },
     };
     tame(&mut trip);
-    Probe::Plan {
-        run: Run {
-            map: trip.map.bytes(),
-            order: trip.order.bytes(),
-        },
-        labels: vec![0xA5A5_A5A5; AMPLE_WORDS],
-        sheet: vec![0xEE; 1_000],
-    }
+    plan_with_ample_space(trip.map.bytes(), &trip.order)
 }

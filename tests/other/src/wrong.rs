@@ -1,7 +1,7 @@
 //! Deliberately wrong copies: `compare` must find each.
 
 use crate::chains::make_chains;
-use crate::mapcheck::check_map;
+use crate::mapcheck::{check_map, MOST_JUNCTIONS};
 use crate::moves::{Move, State, Trip, BREAK, DRIVE, REST};
 use crate::names::name;
 use crate::operations::{NameAnswer, Operations, PlanFunction, RetimeFunction, DOCUMENT};
@@ -82,15 +82,17 @@ fn other_copies() -> Vec<WrongCopy> {
     ]
 }
 
-fn check_copies() -> [WrongCopy; 2] {
-    [
-        WrongCopy {
-            name: "misfit-tells-length-seen",
-            operations: Operations {
-                check_map: misfit_tells_length_seen,
-                ..DOCUMENT
-            },
+fn check_copies() -> [WrongCopy; 3] {
+    let with_map_check = |name, check_map| WrongCopy {
+        name,
+        operations: Operations {
+            check_map,
+            ..DOCUMENT
         },
+    };
+    [
+        with_map_check("misfit-tells-length-seen", misfit_tells_length_seen),
+        with_map_check("one-junction-too-many", one_junction_too_many),
         WrongCopy {
             name: "order-rules-after-trip",
             operations: Operations {
@@ -336,6 +338,17 @@ fn misfit_tells_length_seen(map: &[u8]) -> Reply {
         MISFIT => Reply::refused(MISFIT, map.len() as u64),
         _ => reply,
     }
+}
+
+/// Judges a map with one junction too many by the largest count.
+fn one_junction_too_many(map: &[u8]) -> Reply {
+    let reply = check_map(map);
+    if reply != Reply::refused(OVERSIZE, 4) || word(map, 4) != MOST_JUNCTIONS + 1 {
+        return reply;
+    }
+    let mut largest = map.to_vec();
+    put_word(&mut largest, 4, MOST_JUNCTIONS);
+    check_map(&largest)
 }
 
 fn order_rules_after_trip(bytes: &[u8], junctions: u32) -> Reply {

@@ -9,9 +9,10 @@ mod timing;
 use std::fs::read_to_string;
 use std::process::ExitCode;
 
-use bench::maps::{grid, practice, NamedMap, MOST_JUNCTIONS};
+use bench::maps::{grid, practice, NamedMap};
 use bench::trips::Targets;
 use checks::{print_map_checks, print_sheet_checks};
+use other::mapcheck::MOST_JUNCTIONS;
 use planning::{print_ratios, print_times, Planners};
 
 const USAGE: &str = "bench [--quick]";
@@ -29,7 +30,7 @@ struct Extent {
 
 const WHOLE: Extent = Extent {
     runs: 15,
-    practice_sizes: &[256, 1_024, 4_096, 12_288],
+    practice_sizes: &[256, 1_024, 4_096, MOST_JUNCTIONS],
     grid_sides: &[32, 64, 96],
     label_counts: &[
         1_000, 3_000, 10_000, 30_000, 60_000, 100_000, 200_000, 300_000,

@@ -3,6 +3,7 @@
 
 use super::random::Random;
 use crate::map::Map;
+use crate::mapcheck::{MOST_JUNCTIONS, MOST_NAME_BYTES, MOST_ROADS};
 use crate::order::{LATEST_CLOCK, LONGEST_RULE};
 use crate::words::{put_word, word};
 
@@ -92,9 +93,12 @@ fn damage_size(random: &mut Random, bytes: &mut Vec<u8>) {
     match random.below(8) {
         0 => bytes.truncate(random.index(17)),
         1 => put_word(bytes, 0, random.pick(&[0, 2, 257, 0x0100_0000, ALL_BITS])),
-        2 => put_word(bytes, 4, random.pick(&[0, 65_535, 65_536, ALL_BITS])),
-        3 => put_word(bytes, 8, random.pick(&[262_143, 262_144, ALL_BITS])),
-        4 => put_word(bytes, 12, random.pick(&[1_048_576, 1_048_577, ALL_BITS])),
+        2 => {
+            let counts = [0, MOST_JUNCTIONS, MOST_JUNCTIONS + 1, ALL_BITS];
+            put_word(bytes, 4, random.pick(&counts));
+        }
+        3 => put_word(bytes, 8, last_or_above(random, MOST_ROADS)),
+        4 => put_word(bytes, 12, last_or_above(random, MOST_NAME_BYTES)),
         5 => {
             put_word(bytes, 8, ALL_BITS);
             put_word(bytes, 12, ALL_BITS);
@@ -105,6 +109,11 @@ fn damage_size(random: &mut Random, bytes: &mut Vec<u8>) {
             bytes.extend(vec![b'x'; more]);
         }
     }
+}
+
+/// The last value in range, or one above it.
+fn last_or_above(random: &mut Random, last: u64) -> u64 {
+    random.pick(&[last, last + 1, ALL_BITS])
 }
 
 /// Refusals 9 to 11.

@@ -3,7 +3,6 @@
 use crate::map::{Junction, Map, Road};
 
 pub const USUAL_START: u32 = 2_463_534_242;
-pub const MOST_JUNCTIONS: u64 = 12_288;
 
 /// The next state of Marsaglia's xorshift on 32 bits.
 pub fn draw(state: &mut u32) -> u64 {
@@ -13,7 +12,7 @@ pub fn draw(state: &mut u32) -> u64 {
     u64::from(*state)
 }
 
-/// The map of 1 to 12,288 junctions and a start other than 0.
+/// The map of 1 to `MOST_JUNCTIONS` junctions and a start other than 0.
 pub fn practice_map(junctions: u64, start: u32) -> Map {
     let mut state = start;
     let mut map = Map {
