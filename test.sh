@@ -45,6 +45,10 @@ rt ci | tee "$said"
 step "Library for C and Rust, of the crates just proved"
 rt staticlib trunk
 
+step "Stack of each call of the library"
+cc -std=c11 -O2 -Wall -Wextra -pthread -Iinclude tests/stack_use.c target/staticlib/libtrunk.a -o target/stack_use
+target/stack_use
+
 step "Examples and the Rust package"
 examples/run.sh --built
 

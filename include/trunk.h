@@ -21,8 +21,8 @@
  * nothing at all, so set reply[0] to another value beforehand if the count may be wrong.
  *
  * Stack, measured with the library of this version (frames are fixed and nothing recurses, so no input takes more):
- *     trunk_plan                1,049,463 bytes; leave 1,280 KiB
- *     every other function at most 262,711 bytes; leave 320 KiB
+ *     trunk_plan                197,559 bytes; leave TRUNK_PLAN_STACK_BYTES, 256 KiB
+ *     every other function at most 49,767 bytes; leave TRUNK_STACK_BYTES, 64 KiB
  * The main thread (8 MiB as a rule) and threads of glibc and Rust with their usual size have enough.
  */
 #ifndef TRUNK_H
@@ -35,12 +35,22 @@
 extern "C" {
 #endif
 
+/* The largest map, and the stack to leave for a call. */
+enum {
+    TRUNK_MOST_JUNCTIONS = 12288,
+    TRUNK_MOST_ROADS = 40960,
+    TRUNK_MOST_NAME_BYTES = 1048576,
+    TRUNK_MOST_MAP_BYTES = 16 + 16 * TRUNK_MOST_JUNCTIONS + 20 * TRUNK_MOST_ROADS + TRUNK_MOST_NAME_BYTES,
+    TRUNK_PLAN_STACK_BYTES = 256 * 1024, /* trunk_plan */
+    TRUNK_STACK_BYTES = 64 * 1024        /* every other function */
+};
+
 /* What a reply's number says, and what its place is then. */
 enum trunk_number {
     TRUNK_DONE = 0,
     TRUNK_SHORT_MAP = 1,      /* under 16 bytes: its length */
     TRUNK_STRANGE_MAP = 2,    /* the format is not 1: 0 */
-    TRUNK_OVERSIZE = 3,       /* the junctions, roads or name bytes are out of range: 4, 8 or 12, the first */
+    TRUNK_OVERSIZE = 3,       /* no junctions, or too many junctions, roads or name bytes: 4, 8 or 12, the first */
     TRUNK_MISFIT = 4,         /* the map's length differs from what its counts need: the length needed */
     TRUNK_BAD_JUNCTION = 5,   /* first road, flag or place of the name: the lowest such junction */
     TRUNK_BAD_ROAD = 6,       /* any field: the lowest such road */

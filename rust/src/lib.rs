@@ -4,11 +4,24 @@
 //! Maps, orders and sheets are bytes in the formats of document 01; `include/trunk.h` lists the refusals and what each
 //! call reads and writes. Every call ends, allocates nothing, and answers bad input by a refusal that changes no byte.
 //!
-//! [`plan`] needs 1,280 KiB of stack and every other call 320 KiB, whatever the map. Threads of the standard library
-//! have 2 MiB unless they are given less.
+//! [`plan`] needs [`PLAN_STACK_BYTES`] of stack and every other call [`STACK_BYTES`], whatever the map. Threads of the
+//! standard library have 2 MiB unless they are given less.
 #![warn(missing_docs)]
 
 use std::fmt;
+
+/// The most junctions of a map.
+pub const MOST_JUNCTIONS: usize = 12_288;
+/// The most roads of a map.
+pub const MOST_ROADS: usize = 40_960;
+/// The most bytes of a map's names.
+pub const MOST_NAME_BYTES: usize = 1_048_576;
+/// The length of the largest map.
+pub const MOST_MAP_BYTES: usize = 16 + 16 * MOST_JUNCTIONS + 20 * MOST_ROADS + MOST_NAME_BYTES;
+/// The stack to leave for [`plan`].
+pub const PLAN_STACK_BYTES: usize = 256 * 1024;
+/// The stack to leave for every other call.
+pub const STACK_BYTES: usize = 64 * 1024;
 
 /// The library's functions, as `include/trunk.h` declares them. A slice is a pointer and a length.
 mod raw {
@@ -86,7 +99,8 @@ pub enum Refusal {
     ShortMap = 1,
     /// The map's format is not 1. Place: 0.
     StrangeMap,
-    /// The junctions, roads or name bytes are out of range. Place: 4, 8 or 12, the first.
+    /// No junctions, or more than [`MOST_JUNCTIONS`], [`MOST_ROADS`] or [`MOST_NAME_BYTES`] allow. Place: 4, 8 or 12, the
+    /// first.
     Oversize,
     /// The map's length differs from what its counts need. Place: the length needed.
     Misfit,

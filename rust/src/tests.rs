@@ -1,4 +1,4 @@
-//! Document 01's trial trips and a refusal of each call, through the library.
+//! Document 01's trial trips, a refusal of each call and the largest map, through the library.
 use super::*;
 
 const NAMES: &[u8] = b"HubLayEnd";
@@ -172,6 +172,78 @@ fn checks_orders_without_a_map() {
     assert_eq!(check_order(&order, 0), refused(Refusal::BadTrip, 0));
     let bad_rules = bytes_of(&[0, 3, 0, 100_000, 0, 0, 16200, 2700, 32400, 0]);
     assert_eq!(check_order(&bad_rules, 3), refused(Refusal::BadRules, 9));
+}
+
+/// A map with as many name bytes as there may be. Its last roads, one from each junction to the next and from the last
+/// to the first, take a second; those before them are too long for any driver.
+fn ring_map(junctions: u32, roads: u32) -> Vec<u8> {
+    let mut map = bytes_of(&[1, junctions, roads, MOST_NAME_BYTES as u32]);
+    for _ in 0..junctions {
+        map.extend(bytes_of(&[0, 0, 0, 1]));
+    }
+    for behind in (0..roads).rev() {
+        let from = junctions - behind % junctions;
+        let (metres, speed) = if behind < junctions {
+            (1, 130)
+        } else {
+            (2_000_000, 5)
+        };
+        map.extend(bytes_of(&[from, from % junctions + 1, metres, speed, 0]));
+    }
+    map.resize(map.len() + MOST_NAME_BYTES, b'n');
+    map
+}
+
+/// The European order from 2 to 1.
+fn ring_order() -> Vec<u8> {
+    bytes_of(&[2, 1, 0, 100_000, 0, 0, 16200, 2700, 32400, 39600])
+}
+
+/// Each junction of the largest map is a label, and the plan takes the ring's roads in turn; the last is the map's last.
+#[test]
+fn the_largest_map_passes_and_plans() {
+    let mut map = ring_map(MOST_JUNCTIONS as u32, MOST_ROADS as u32);
+    assert_eq!((map.len(), MOST_MAP_BYTES), (2_064_400, 2_064_400));
+    assert_eq!(make_chains(&mut map), Ok(()));
+    assert_eq!(check_map(&map), Ok(()));
+    assert_eq!(name(&map, 12_288), Ok(&b"n"[..]));
+    let (order, mut sheet) = (ring_order(), vec![0; 20 + 12 * 12_287]);
+    assert_eq!(
+        plan(&map, &order, &mut vec![7; 8 * 12_288], &mut sheet),
+        Ok(Planned {
+            labels: 12_288,
+            arrival: 12_287
+        })
+    );
+    assert_eq!(
+        sheet[sheet.len() - 12..],
+        bytes_of(&[1, 40_960, 12_287])[..]
+    );
+    let timed = Ok(Timed {
+        moves: 12_287,
+        arrival: 12_287,
+    });
+    let mut out = vec![0; sheet.len()];
+    assert_eq!(retime(&map, &order, &sheet, &mut out), timed);
+    assert_eq!(out, sheet);
+    assert_eq!(audit(&map, &order, &sheet), timed);
+}
+
+#[test]
+fn one_junction_or_road_too_many_is_oversize() {
+    for (junctions, roads, place) in [(12_289, 40_960, 4), (12_288, 40_961, 8)] {
+        let mut map = ring_map(junctions, roads);
+        let (mut words, mut sheet) = ([7; 8], [0xEE; 20]);
+        assert_eq!(
+            plan(&map, &ring_order(), &mut words, &mut sheet),
+            refused(Refusal::Oversize, place)
+        );
+        assert_eq!((words, sheet), ([7; 8], [0xEE; 20]));
+        assert_eq!(check_map(&map), refused(Refusal::Oversize, place));
+        let before = map.clone();
+        assert_eq!(make_chains(&mut map), refused(Refusal::Oversize, place));
+        assert_eq!(map, before);
+    }
 }
 
 #[test]
