@@ -20,7 +20,7 @@ use crate::ordinary::{self, Ordinary};
 use crate::strong::heap::Heap;
 use crate::strong::{self, Strong};
 use crate::trip::Trip;
-use crate::trips::{european_order, Targets};
+use crate::trips::{european_order, NamedTrip, Targets};
 
 const SEED: u64 = 1;
 const CASES: u64 = 600;
@@ -96,14 +96,21 @@ fn both_agree_on_larger_maps() {
 #[test]
 fn targets_have_the_labels_that_a_search_takes() {
     let map = practice(1_024);
-    let counts = [1, 100, 1_000];
-    let trips = Targets::of(&map.bytes).with_labels(&counts);
-    assert_eq!(trips.len(), counts.len());
-    for (trip, least) in trips.iter().zip(counts) {
+    let labels = |trip: &NamedTrip| {
         let [answer, _] = Both::default().answers(&map.bytes, &trip.order);
-        let above = answer.labels() as usize - least;
-        assert!(above < 10, "{} labels", answer.labels());
+        answer.labels() as usize
+    };
+    let counts = [1, 100, 1_000];
+    let targets = Targets::of(&map.bytes);
+    let trips = targets.with_labels(&counts);
+    assert_eq!(trips.len(), counts.len() + 1);
+    for (trip, least) in trips.iter().zip(counts) {
+        assert!((least..least + 10).contains(&labels(trip)));
     }
+    let [_, _, far] = &targets.near_middle_far()[..] else {
+        panic!("near, middle and far");
+    };
+    assert!(labels(&trips[counts.len()]) >= labels(far));
 }
 
 #[test]

@@ -60,16 +60,21 @@ impl Targets {
             .into()
     }
 
-    /// For each of these counts the target with the lowest N not below it, where there is one.
+    /// For each of these counts the target with the lowest N not below it, where there is one, and
+    /// the target that is reached last.
     pub fn with_labels(&self, counts: &[usize]) -> Vec<NamedTrip> {
         let first_with = |count: &usize| {
             let index = self.by_labels.partition_point(|(labels, _)| labels < count);
-            let (_, target) = *self.by_labels.get(index)?;
-            Some(NamedTrip {
-                name: format!("to {target}"),
-                order: european_order(target),
-            })
+            self.by_labels.get(index)
         };
-        counts.iter().filter_map(first_with).collect()
+        counts
+            .iter()
+            .filter_map(first_with)
+            .chain(self.by_labels.last())
+            .map(|(_, target)| NamedTrip {
+                name: format!("to {target}"),
+                order: european_order(*target),
+            })
+            .collect()
     }
 }

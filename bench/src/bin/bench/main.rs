@@ -22,7 +22,7 @@ struct Extent {
     runs: usize,
     practice_sizes: &'static [u64],
     grid_sides: &'static [u64],
-    /// The label counts at which growth is seen.
+    /// The label counts at which growth is seen, beside that of the target reached last.
     label_counts: &'static [usize],
     /// The moves of the sheets that are retimed and audited.
     sheet_lengths: &'static [u64],
@@ -32,9 +32,7 @@ const WHOLE: Extent = Extent {
     runs: 15,
     practice_sizes: &[256, 1_024, 4_096, MOST_JUNCTIONS],
     grid_sides: &[32, 64, 96],
-    label_counts: &[
-        1_000, 3_000, 10_000, 30_000, 60_000, 100_000, 200_000, 300_000,
-    ],
+    label_counts: &[1_000, 3_000, 10_000, 20_000, 50_000],
     sheet_lengths: &[1_000, 10_000, 100_000],
 };
 
@@ -42,7 +40,7 @@ const QUICK: Extent = Extent {
     runs: 5,
     practice_sizes: &[256, 4_096],
     grid_sides: &[32],
-    label_counts: &[1_000, 30_000],
+    label_counts: &[1_000],
     sheet_lengths: &[1_000],
 };
 
