@@ -6,4 +6,6 @@ cd "$(dirname "$0")/.."
 rt staticlib trunk >&2
 export CARGO_TARGET_DIR="$PWD/target/bench"
 cargo build --quiet --release --offline --manifest-path bench/Cargo.toml
+# Memory that a planner gave back stays with the process, so that no time has the taking of it from the system in it.
+export MALLOC_MMAP_THRESHOLD_=33554432 MALLOC_TRIM_THRESHOLD_=1073741824
 exec target/bench/release/bench "$@"
