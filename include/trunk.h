@@ -41,8 +41,8 @@ enum {
     TRUNK_MOST_ROADS = 40960,
     TRUNK_MOST_NAME_BYTES = 1048576,
     TRUNK_MOST_MAP_BYTES = 16 + 16 * TRUNK_MOST_JUNCTIONS + 20 * TRUNK_MOST_ROADS + TRUNK_MOST_NAME_BYTES,
-    TRUNK_PLAN_STACK_BYTES = 256 * 1024, /* trunk_plan */
-    TRUNK_STACK_BYTES = 64 * 1024        /* every other function */
+    TRUNK_PLAN_STACK_BYTES = 262144, /* trunk_plan */
+    TRUNK_STACK_BYTES = 65536,       /* every other function */
 };
 
 /* What a reply's number says, and what its place is then. */

@@ -247,6 +247,23 @@ fn one_junction_or_road_too_many_is_oversize() {
 }
 
 #[test]
+fn the_header_has_the_same_figures() {
+    let header = include_str!("../../include/trunk.h");
+    for (name, figure) in [
+        ("MOST_JUNCTIONS", MOST_JUNCTIONS),
+        ("MOST_ROADS", MOST_ROADS),
+        ("MOST_NAME_BYTES", MOST_NAME_BYTES),
+        ("PLAN_STACK_BYTES", PLAN_STACK_BYTES),
+        ("STACK_BYTES", STACK_BYTES),
+    ] {
+        assert!(
+            header.contains(&format!(" TRUNK_{name} = {figure},")),
+            "{name}"
+        );
+    }
+}
+
+#[test]
 fn numbers_are_document_01s() {
     for (i, refusal) in Refusal::ALL.into_iter().enumerate() {
         assert_eq!(refusal.number(), i as u64 + 1);
