@@ -174,21 +174,29 @@ fn checks_orders_without_a_map() {
     assert_eq!(check_order(&bad_rules, 3), refused(Refusal::BadRules, 9));
 }
 
-/// A map with as many name bytes as there may be. Its last roads, one from each junction to the next and from the last
-/// to the first, take a second; those before them are too long for any driver.
+/// A map that is sound but for its counts, with as many name bytes as there may be and no fewer roads than junctions.
+/// Its last roads, one from each junction to the next and from the last to the first, take a second; those before them
+/// are too long for any driver.
 fn ring_map(junctions: u32, roads: u32) -> Vec<u8> {
     let mut map = bytes_of(&[1, junctions, roads, MOST_NAME_BYTES as u32]);
-    for _ in 0..junctions {
-        map.extend(bytes_of(&[0, 0, 0, 1]));
+    for junction in 1..=junctions {
+        let first = (roads + junction - 1) % junctions + 1;
+        map.extend(bytes_of(&[first, 0, 0, 1]));
     }
-    for behind in (0..roads).rev() {
+    for number in 1..=roads {
+        let behind = roads - number;
         let from = junctions - behind % junctions;
+        let next = if behind < junctions {
+            0
+        } else {
+            number + junctions
+        };
         let (metres, speed) = if behind < junctions {
             (1, 130)
         } else {
             (2_000_000, 5)
         };
-        map.extend(bytes_of(&[from, from % junctions + 1, metres, speed, 0]));
+        map.extend(bytes_of(&[from, from % junctions + 1, metres, speed, next]));
     }
     map.resize(map.len() + MOST_NAME_BYTES, b'n');
     map
@@ -204,8 +212,10 @@ fn ring_order() -> Vec<u8> {
 fn the_largest_map_passes_and_plans() {
     let mut map = ring_map(MOST_JUNCTIONS as u32, MOST_ROADS as u32);
     assert_eq!((map.len(), MOST_MAP_BYTES), (2_064_400, 2_064_400));
-    assert_eq!(make_chains(&mut map), Ok(()));
     assert_eq!(check_map(&map), Ok(()));
+    let before = map.clone();
+    assert_eq!(make_chains(&mut map), Ok(()));
+    assert_eq!(map, before);
     assert_eq!(name(&map, 12_288), Ok(&b"n"[..]));
     let (order, mut sheet) = (ring_order(), vec![0; 20 + 12 * 12_287]);
     assert_eq!(
