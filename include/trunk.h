@@ -20,7 +20,8 @@
  * numbers (`reply_count` at least 3); further ones stay as they are. With less room the call does nothing and writes
  * nothing at all, so set reply[0] to another value beforehand if the count may be wrong.
  *
- * Stack, measured with the library of this version (frames are fixed and nothing recurses, so no input takes more):
+ * Stack, measured with the library of this version. In its machine code frames are fixed and nothing recurses, and no
+ * path through it reserves a hundred bytes more, the C library's memset aside:
  *     trunk_plan                197,559 bytes; leave TRUNK_PLAN_STACK_BYTES, 256 KiB
  *     every other function at most 49,767 bytes; leave TRUNK_STACK_BYTES, 64 KiB
  * The main thread (8 MiB as a rule) and threads of glibc and Rust with their usual size have enough.
