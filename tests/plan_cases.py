@@ -1,6 +1,6 @@
 """Worked cases of planning.
 
-Replies, figures and rows are written here by hand from document 01. In a `computed` case only the reply's
+Replies, figures and rows are written here by hand from documents 01 and 02. In a `computed` case only the reply's
 number is written by hand, and the other planner gives the rest. Nothing is taken from the program. Where
 roads come back to a junction, latest is near, since the other planner lists every reachable state.
 """
@@ -69,9 +69,21 @@ planned("T, sheet of 56 bytes", T, order(), 4, T_ANSWER, T_ROWS, length=56)
 refused("T, sheet of 55 bytes", T, order(), 14, 56, length=55)
 planned("1 m at 130 takes 1 second", one_road(1, 130), order(ONE_TO_TWO), 2, (1, 1, 1), [(DRIVE, 1, 1)])
 planned("1,250 m at 90 take 50 seconds", one_road(1250, 90), order(ONE_TO_TWO), 2, (50, 50, 50), [(DRIVE, 1, 50)])
-planned("1,251 m at 90 take 51 seconds", one_road(1251, 90), order(ONE_TO_TWO), 2, (51, 51, 51), [(DRIVE, 1, 51)])
+planned("1,251 m at 90 take 50 seconds", one_road(1251, 90), order(ONE_TO_TWO), 2, (50, 50, 50), [(DRIVE, 1, 50)])
 planned("spell 9,000 and a 7,200 road", one_road(160000, 80), order(ONE_TO_TWO, w4=9000, w5=9000), 2, (7200, 16200, 16200), [(DRIVE, 1, 7200)])
 refused("spell 9,001 and a 7,200 road", one_road(160000, 80), order(ONE_TO_TWO, w4=9001, w5=9001), 13, 1)
+
+# --- document 02, P2: the nearest second, an exact half to the even one, never below 1 --------------
+for metres, seconds in ((4, 1), (5, 1), (6, 1), (14, 1), (15, 2), (16, 2), (24, 2), (25, 2), (26, 3), (34, 3), (35, 4), (36, 4), (44, 4), (45, 4), (46, 5)):
+    planned("%d m at 36, time %d" % (metres, seconds), one_road(metres, 36), order(ONE_TO_TWO), 2, (seconds, seconds, seconds), [(DRIVE, 1, seconds)])
+planned("2,000,000 m at 130 take 55,385 seconds", one_road(2000000, 130), order(ONE_TO_TWO, w6=60000, w8=60000), 2, (55385, 55385, 55385), [(DRIVE, 1, 55385)])
+planned("1,251 m at 90, latest 50", one_road(1251, 90), order(ONE_TO_TWO, w3=50), 2, (50, 50, 50), [(DRIVE, 1, 50)])
+refused("1,251 m at 90, latest 49", one_road(1251, 90), order(ONE_TO_TWO, w3=49), 13, 1)
+planned("1,251 m at 90, spell limit 50", one_road(1251, 90), order(ONE_TO_TWO, w6=50), 2, (50, 50, 50), [(DRIVE, 1, 50)])
+refused("1,251 m at 90, spell limit 49", one_road(1251, 90), order(ONE_TO_TWO, w6=49), 13, 1)
+# 28 m at once are 2.8 seconds, so 3; twice 14 m are 1.4 seconds each, so 2 in all.
+SHORTER_BY_ROUNDING = chained([("A", NO_PARK), ("B", NO_PARK), ("C", NO_PARK)], [(1, 3, 28, 36), (1, 2, 14, 36), (2, 3, 14, 36)])
+planned("the first to arrive by rounded times", SHORTER_BY_ROUNDING.bytes(), order(), 3, (2, 2, 2), [(DRIVE, 2, 1), (DRIVE, 3, 2)])
 
 # --- label space and sheet -----------------------------------------------------------------------
 planned("T, room for 512 labels", T, order(), 4, T_ANSWER, T_ROWS, label_words=4096)
@@ -187,7 +199,8 @@ planned(
     [(DRIVE, 1, 16200), (BREAK, 2, 18900), (DRIVE, 2, 35100), (BREAK, 3, 37800), (DRIVE, 3, 37900)],
 )
 planned("a road that meets the spell limit", one_road(360000, 80), order(ONE_TO_TWO), 2, (16200, 16200, 16200), [(DRIVE, 1, 16200)])
-refused("a road one second above the spell limit", one_road(360001, 80), order(ONE_TO_TWO), 13, 1)
+planned("a road rounded down to the spell limit", one_road(360011, 80), order(ONE_TO_TWO), 2, (16200, 16200, 16200), [(DRIVE, 1, 16200)])
+refused("a road one second above the spell limit", one_road(360012, 80), order(ONE_TO_TWO), 13, 1)
 refused("a road that meets the shift limit but for the hours behind", one_road(360000, 80), order(ONE_TO_TWO, w5=16201), 13, 1)
 planned("a road that meets the shift limit with the hours behind", one_road(360000, 80), order(ONE_TO_TWO, w5=16200), 2, (16200, 16200, 32400), [(DRIVE, 1, 16200)])
 

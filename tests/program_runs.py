@@ -4,7 +4,7 @@
     tests/program_runs.py             run target/bin/plan, which `rt check plan` builds
     tests/program_runs.py PROGRAM     run another build of it
 
-The expected text is written by hand from document 01, or given by the other planner.
+The expected text is written by hand from documents 01 and 02, or given by the other planner.
 """
 import os
 import pathlib
@@ -124,10 +124,10 @@ LINE_LISTING = "".join("drive %d x %d\n" % (k, k) for k in range(1, 1600)) + "ar
 run("1,600 labels and 1,599 moves", LINE_LISTING, line(1600), order(w1=1600))
 run("1,601 labels", "refused 12 1600\n", line(1601), order(w1=1601))
 PRACTICE = practice_map(1000)
-for target, arrival in ((5, 8273), (17, 26561), (500, 22296), (1000, 19234)):
+for target, arrival in ((5, 8271), (17, 26557), (500, 22292), (1000, 19228)):
     practice_run("a practice map of 1,000 junctions, 1 to %d" % target, target, arrival, "arrive %d " % arrival)
-practice_run("a practice map, exactly 1,600 labels", 297, 28810, "labels 1600\n")
-practice_run("a practice map, 2,064 labels", 112, 32091, "refused 12 1600\n")
+practice_run("a practice map, exactly 1,600 labels", 297, 28806, "labels 1600\n")
+practice_run("a practice map, 2,064 labels", 112, 32085, "refused 12 1600\n")
 
 # --- many small maps, beside the other planner -----------------------------------------------------------
 DICE = random.Random(561)

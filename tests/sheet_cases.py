@@ -1,7 +1,7 @@
 """Worked cases of retiming and audit.
 
-The expected replies and figures are written here by hand from document 01; nothing is taken from
-the program.
+The expected replies and figures are written here by hand from documents 01 and 02; nothing is taken
+from the program.
 """
 from case_files import case
 from formats import ALL_BITS, BREAK, DRIVE, Map, map_t, order, sheet, words
@@ -9,6 +9,8 @@ from formats import ALL_BITS, BREAK, DRIVE, Map, map_t, order, sheet, words
 T = map_t().bytes()
 # One junction, a car park, with a road to itself of 50 seconds (1,250 m at 90).
 LOOP = Map([[1, 1, 0, 1]], [[1, 1, 1250, 90, 0]], b"x").bytes()
+# The same of 1,251 m: 50.04 seconds, so 50 since document 02 (P2), and 51 before.
+ROUNDED_LOOP = Map([[1, 1, 0, 1]], [[1, 1, 1251, 90, 0]], b"x").bytes()
 HOME = [1, 1, 7, 100000, 5, 6, 16200, 2700, 32400, 39600]
 PLAN = [(DRIVE, 1, 10800), (BREAK, 2, 13500), (DRIVE, 2, 20700)]
 TRUE = sheet(PLAN, 20700, 7200, 18000)
@@ -44,6 +46,7 @@ retime("no moves, source is target", LOOP, order(HOME), sheet([]), 20, "0 0 7", 
 retime("a pause at source", LOOP, order(HOME), sheet([(2, 1, 0)]), 32, "0 1 2707", sheet([(2, 1, 2707)], 2707, 0, 6))
 retime("a rest at source", LOOP, order(HOME), sheet([(3, 1, 0)]), 32, "0 1 39607", sheet([(3, 1, 39607)], 39607, 0, 0))
 retime("a road to its own junction", LOOP, order(HOME), sheet([(1, 1, 0)]), 32, "0 1 57", sheet([(1, 1, 57)], 57, 55, 56))
+retime("a sheet of road times rounded up", ROUNDED_LOOP, order(HOME), sheet([(1, 1, 58)], 58, 56, 57), 32, "0 1 57", sheet([(1, 1, 57)], 57, 55, 56))
 retime("through target and on", LOOP, order(HOME), sheet([(1, 1, 0), (2, 1, 0), (1, 1, 0)]), 56, "0 3 2807", sheet([(1, 1, 57), (2, 1, 2757), (1, 1, 2807)], 2807, 50, 106))
 retime("arrival at latest", T, order(w3=20700), TRUE, 56, "0 3 20700", TRUE)
 retime("spell at its limit", T, order(w6=10800), TRUE, 56, "0 3 20700", TRUE)
@@ -54,6 +57,7 @@ audit("T's plan audits", T, order(), TRUE, "0 3 20700")
 audit("N is not compared", T, order(), sheet(PLAN, 20700, 7200, 18000, 99), "0 3 20700")
 audit("no moves, true header", LOOP, order(HOME), sheet([], 7, 5, 6), "0 0 7")
 audit("a pause at source audits", LOOP, order(HOME), sheet([(2, 1, 2707)], 2707, 0, 6), "0 1 2707")
+audit("a road time rounded down", ROUNDED_LOOP, order(HOME), sheet([(1, 1, 57)], 57, 55, 56), "0 1 57")
 audit("a sheet that is not the first to arrive audits", T, order(), sheet([(1, 1, 10800), (3, 2, 50400), (1, 2, 57600)], 57600, 7200, 7200), "0 3 57600")
 
 # --- refusals 1 to 11 before the sheet is looked at ----------------------------------------------
@@ -98,6 +102,7 @@ both("starting spell counts", T, order(w4=5401, w5=5401), TRUE, "17 1 0")
 audit("false clock first", T, order(), sheet([(1, 1, 10799)] + PLAN[1:], 20700, 7200, 18000), "18 1 0")
 audit("false clock in the middle", T, order(), sheet([PLAN[0], (2, 2, 13501), PLAN[2]], 20700, 7200, 18000), "18 2 0")
 audit("false clock last", T, order(), sheet(PLAN[:2] + [(1, 2, 0)], 20700, 7200, 18000), "18 3 0")
+audit("a road time rounded up", ROUNDED_LOOP, order(HOME), sheet([(1, 1, 58)], 58, 56, 57), "18 1 0")
 audit("false clock before an overrun: the clock", T, order(w3=20699), sheet([(1, 1, 1)] + PLAN[1:], 20700, 7200, 18000), "18 1 0")
 audit("overrun with a false clock: the overrun", T, order(w3=20699), sheet(PLAN[:2] + [(1, 2, 1)], 20700, 7200, 18000), "17 3 0")
 audit("false arrival", T, order(), sheet(PLAN, 20701, 7200, 18000), "18 4 0")

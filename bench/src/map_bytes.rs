@@ -1,6 +1,6 @@
 //! The junctions and roads in the bytes of an accepted map, for the planners' conversions.
 
-use other::map::{HEADER_BYTES, JUNCTION_BYTES, ROAD_BYTES};
+use other::map::{road_time, HEADER_BYTES, JUNCTION_BYTES, ROAD_BYTES};
 use other::words::word;
 
 pub struct Road {
@@ -30,14 +30,11 @@ pub fn car_parks(map: &[u8]) -> impl Iterator<Item = bool> + '_ {
 pub fn roads(map: &[u8]) -> impl DoubleEndedIterator<Item = Road> + '_ {
     let start = HEADER_BYTES + JUNCTION_BYTES * junction_count(map);
     let roads = &map[start..][..ROAD_BYTES * road_count(map)];
-    let read = |(index, road): (usize, &[u8])| {
-        let (metres, speed) = (word(road, 8), word(road, 12));
-        Road {
-            number: index as u32 + 1,
-            from: word(road, 0) as u32,
-            to: word(road, 4) as u32,
-            time: (18 * metres).div_ceil(5 * speed) as u32,
-        }
+    let read = |(index, road): (usize, &[u8])| Road {
+        number: index as u32 + 1,
+        from: word(road, 0) as u32,
+        to: word(road, 4) as u32,
+        time: road_time(word(road, 8), word(road, 12)) as u32,
     };
     roads.chunks_exact(ROAD_BYTES).enumerate().map(read)
 }

@@ -1,4 +1,4 @@
--- The starred trial trips of document 01, proved together: antt computes one test. Assumes nothing.
+-- The starred trial trips of document 01, with the road times of document 02 (P2), proved together: antt computes one test. Assumes nothing.
 use mathlib.Core.Bool.{Bool, true, false, not, _&&_}
 use mathlib.Core.List.{List, [], _∷_, _++_}
 use mathlib.Core.Option.{Option, none, some}
@@ -8,7 +8,7 @@ use Rattle.words.specs.Word.{wordAt}
 use Rattle.replies.specs.declared.Reply.{Reply}
 use Rattle.replies.specs.Told.{succeeded, refusedAt}
 use Rattle.replies.specs.First.{lowest}
-use Rattle.roadmap.specs.RoadTime.{roadSeconds}
+use Rattle.roadmap.specs.RoadTime.{nearest, roadSeconds}
 use Rattle.roadmap.specs.Format.{format, junctionCount, roadCount, nameBytes, junctionWord, roadWord}
 use Rattle.mapcheck.specs.MapCheck.{oversize, outside, badJunctionAt, badRoadAt, badLetterAt}
 use Rattle.mapcheck.specs.Chain.{brokenChainAt, among, chainFrom}
@@ -86,7 +86,7 @@ hasFigures figures none = false
 hasFigures figures (some a) = sameEach (figuresOf a) figures
 
 unfoldable pub right : Case → Bool
-unfolding planReply wordAt format junctionCount roadCount nameBytes junctionWord roadWord oversize outside lowest badJunctionAt badRoadAt brokenChainAt among chainFrom badLetterAt firstBroken badRules badTrip tripOf roadSeconds planRows planMoves labelsIn answerIn after legal sameState covers ranksNoHigher noneAbove sameEach lexicographic
+unfolding planReply wordAt format junctionCount roadCount nameBytes junctionWord roadWord oversize outside lowest badJunctionAt badRoadAt brokenChainAt among chainFrom badLetterAt firstBroken badRules badTrip tripOf nearest roadSeconds planRows planMoves labelsIn answerIn after legal sameState covers ranksNoHigher noneAbove sameEach lexicographic
 right (takes metres speed seconds) = eqb (roadSeconds metres speed) seconds
 right (answers figures) = hasFigures figures (answerIn tripT)
 right (lists rows) = sameRows (planRows tripT) rows
@@ -94,7 +94,7 @@ right (replies latest fit sheet reply) = sameReply (planReply mapT (orderT lates
 right (drives spell is) = sameBool (legal (tripT .order) (after tripT (atLay 0 spell spell) (move 1 2))) is
 right (dominating b a is) = sameBool (dominatesState b a) is
 
--- in the order of document 01; then T's sheet
+-- in the order of document 01, with document 02's road times halfway between two seconds; then T's sheet
 abbrev pub starredCases : List Case
 starredCases =
     takes 240000 80 10800
@@ -102,7 +102,12 @@ starredCases =
     ∷ takes 400000 80 18000
     ∷ takes 1 130 1
     ∷ takes 1250 90 50
-    ∷ takes 1251 90 51
+    ∷ takes 1251 90 50
+    ∷ takes 25 36 2
+    ∷ takes 35 36 4
+    ∷ takes 45 36 4
+    ∷ takes 15 36 2
+    ∷ takes 5 36 1
     ∷ answers (20700 ∷ 7200 ∷ 18000 ∷ [])
     ∷ replies 100000 4 56 (succeeded 4 20700)
     ∷ replies 100000 3 56 (refusedAt 12 3)

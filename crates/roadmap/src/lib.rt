@@ -1,9 +1,9 @@
 // The road map: its format, and the time that a road takes.
 ghost use mathlib.Core.Path.{_≡_};
-ghost use Prim.Native.Nat.{_+_, _≤_};
+ghost use Prim.Native.Nat.{_+_, _*_, _≤_};
 ghost use lib.ListN.{length};
 ghost use Rattle.roadmap.specs.Format.{HasSizes, mapHeaderBytes, format, junctionCount, roadCount, nameBytes, junctionWord, roadWord, junctionOf, roadOf, firstRoad, carPark, nameStart, nameLength, roadFrom, roadTo, roadMetres, roadSpeed, nextRoad};
-ghost use Rattle.roadmap.specs.RoadTime.{roadSeconds, mostMetres, mostSpeed};
+ghost use Rattle.roadmap.specs.RoadTime.{nearest, roadSeconds, mostMetres, mostSpeed};
 use words::word;
 
 // How many junctions and roads a map has, and how many bytes of names.
@@ -203,10 +203,29 @@ pub fn read_road(map: &[u8], sizes: Sizes, r: u32) -> Road
     }
 }
 
-// The seconds that so many metres take at so many kilometres an hour.
+// The quotient to the nearest whole number, an exact half to the even one.
+fn nearest(dividend: u32, divisor: u32) -> u32
+    requires { ⌜ (dividend ≤ 18 * mostMetres) × (1 ≤ divisor) × (divisor ≤ 5 * mostSpeed) ⌝ }
+    ensures { λ r. ⌜ r ≡ nearest dividend divisor ⌝ }
+{
+    let lower = dividend / divisor;
+    let twice = 2 * (dividend % divisor);
+    // at an exact half an odd number gives way to the even one above it
+    if twice + lower % 2 <= divisor {
+        lower
+    } else {
+        lower + 1
+    }
+}
+
+// The seconds that so many metres take at so many kilometres an hour. Half a second and less takes
+// the least second, which is asked first because it needs no division.
 pub fn road_seconds(metres: u32, speed: u32) -> u32
     requires { ⌜ (metres ≤ mostMetres) × (1 ≤ speed) × (speed ≤ mostSpeed) ⌝ }
     ensures { λ r. ⌜ r ≡ roadSeconds metres speed ⌝ }
 {
-    (18 * metres + (5 * speed - 1)) / (5 * speed)
+    if 36 * metres <= 5 * speed {
+        return 1;
+    }
+    nearest(18 * metres, 5 * speed)
 }

@@ -1,5 +1,7 @@
 //! A map as lists, and its bytes. Nothing is judged here.
 
+use std::cmp::Ordering;
+
 use crate::words::{bytes_of, word};
 
 pub const HEADER_BYTES: usize = 16;
@@ -24,10 +26,23 @@ pub struct Road {
 }
 
 impl Road {
-    /// 18 × metres / (5 × km per hour), rounded up.
     pub fn time(&self) -> u64 {
-        (18 * self.metres).div_ceil(5 * self.speed)
+        road_time(self.metres, self.speed)
     }
+}
+
+/// 18 × metres / (5 × km per hour) to the nearest second, an exact half to the even one, and never
+/// below 1.
+pub fn road_time(metres: u64, speed: u64) -> u64 {
+    let (dividend, divisor) = (18 * metres, 5 * speed);
+    let distance = |seconds: u64| (divisor * seconds).abs_diff(dividend);
+    let lower = dividend / divisor;
+    let nearest = match distance(lower).cmp(&distance(lower + 1)) {
+        Ordering::Less => lower,
+        Ordering::Equal => lower + lower % 2,
+        Ordering::Greater => lower + 1,
+    };
+    nearest.max(1)
 }
 
 #[derive(Clone, Debug, PartialEq, Eq)]

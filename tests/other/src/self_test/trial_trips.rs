@@ -2,31 +2,24 @@
 
 use super::fixtures::*;
 use crate::listing::listings;
-use crate::map::Road;
+use crate::map::{road_time, Road};
 use crate::moves::{State, Trip, DRIVE};
 use crate::order::{Order, EUROPEAN_RULES};
 use crate::reply::Reply;
 use crate::sheet::Sheet;
 use crate::words::bytes_of;
 
-fn time(metres: u64, speed: u64) -> u64 {
-    let road = Road {
-        from: 1,
-        to: 1,
-        metres,
-        speed,
-        next: 0,
-    };
-    road.time()
-}
-
 pub fn road_times() {
     let times: Vec<u64> = map_t().roads.iter().map(Road::time).collect();
     assert_eq!(times, [10_800, 7_200, 18_000]);
-    assert_eq!(time(1, 130), 1);
-    assert_eq!(time(1_250, 90), 50);
-    assert_eq!(time(1_251, 90), 51);
-    assert_eq!(time(2_000_000, 5), 1_440_000);
+    assert_eq!(road_time(1, 130), 1);
+    assert_eq!(road_time(1_250, 90), 50);
+    assert_eq!(road_time(1_251, 90), 50);
+    assert_eq!(road_time(2_000_000, 5), 1_440_000);
+    let at_36 = |metres: [u64; 5]| metres.map(|metres| road_time(metres, 36));
+    assert_eq!(at_36([5, 15, 25, 35, 45]), [1, 2, 2, 4, 4]);
+    assert_eq!(at_36([4, 14, 24, 34, 44]), [1, 1, 2, 3, 4]);
+    assert_eq!(at_36([6, 16, 26, 36, 46]), [1, 2, 3, 4, 5]);
 }
 
 fn plan_t() -> Sheet {
