@@ -3,13 +3,16 @@ from formats import ALL_BITS, chained, order
 
 
 def small_trip(dice):
-    """A map of a few junctions and an order on it; short limits and few different road times make pauses and ties."""
+    """A map of a few junctions and an order on it; short limits and few different road times make pauses and ties.
+
+    About every second road takes half a second more than a whole number, before rounding.
+    """
     count = dice.randint(1, 7)
     junctions = [("".join(dice.choices("ab c", k=dice.randint(1, 4))), dice.random() < 0.6) for _ in range(count)]
     ends = [(j, j + 1) for j in range(1, count) if dice.random() < 0.9]
     ends += [(dice.randint(1, count), dice.randint(1, count)) for _ in range(dice.randint(0, count))]
     dice.shuffle(ends)
-    roads = [(begin, end, 10 * dice.randint(1, 6), 36) for begin, end in ends]
+    roads = [(begin, end, 5 * dice.randint(1, 12), 36) for begin, end in ends]
     spell_limit, break_time = dice.randint(5, 12), dice.randint(1, 5)
     shift_limit, rest_time = spell_limit + dice.randint(0, 8), break_time + dice.randint(0, 8)
     shift = dice.choice([0, dice.randint(0, shift_limit)])

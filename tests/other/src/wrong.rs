@@ -1,6 +1,7 @@
 //! Deliberately wrong copies: `compare` must find each.
 
 use crate::chains::make_chains;
+use crate::map::Road;
 use crate::mapcheck::{check_map, MOST_JUNCTIONS};
 use crate::moves::{Move, State, Trip, BREAK, DRIVE, REST};
 use crate::names::name;
@@ -18,7 +19,7 @@ pub struct WrongCopy {
 }
 
 pub fn wrong_copies() -> Vec<WrongCopy> {
-    let planning: [(&'static str, PlanFunction); 19] = [
+    let planning: [(&'static str, PlanFunction); 23] = [
         ("dominance-on-clock-alone", plan::<ClockAlone>),
         ("dominance-on-clock-and-spell", plan::<ClockAndSpell>),
         ("dominance-with-shift-reversed", plan::<ShiftReversed>),
@@ -30,6 +31,10 @@ pub fn wrong_copies() -> Vec<WrongCopy> {
         ("rest-leaves-spell", plan::<RestLeavesSpell>),
         ("break-clears-shift", plan::<BreakClearsShift>),
         ("no-pause-before-driving", plan::<NoPauseBeforeDriving>),
+        ("road-time-rounded-up", plan::<RoadTimeRoundedUp>),
+        ("road-time-half-up", plan::<RoadTimeHalfUp>),
+        ("road-time-half-to-odd", plan::<RoadTimeHalfToOdd>),
+        ("road-time-of-no-second", plan::<RoadTimeOfNoSecond>),
         ("full-before-looking", full_before_looking),
         ("always-no-road", always_no_road),
         ("every-sheet-short", every_sheet_short),
@@ -202,6 +207,66 @@ impl Planner for NoPauseBeforeDriving {
         let mut moves = trip.legal_moves(state);
         moves.retain(|(step, _)| *state != trip.start() || step.kind == DRIVE);
         moves
+    }
+}
+
+/// The legal moves where a road takes the seconds that `time` gives.
+fn moves_timed(trip: &Trip, state: &State, time: fn(&Road) -> u64) -> Vec<(Move, State)> {
+    let mut moves = trip.offered_moves(state);
+    for (step, after) in moves.iter_mut().filter(|(step, _)| step.kind == DRIVE) {
+        let seconds = time(trip.map.road(step.number));
+        after.clock = state.clock + seconds;
+        after.spell = state.spell + seconds;
+        after.shift = state.shift + seconds;
+    }
+    moves.retain(|(_, after)| trip.allows(after));
+    moves
+}
+
+/// A road's time in half seconds, rounded down, and whether nothing was lost.
+fn half_seconds(road: &Road) -> (u64, bool) {
+    let (dividend, divisor) = (36 * road.metres, 5 * road.speed);
+    (dividend / divisor, dividend % divisor == 0)
+}
+
+struct RoadTimeRoundedUp;
+
+impl Planner for RoadTimeRoundedUp {
+    fn moves(trip: &Trip, state: &State) -> Vec<(Move, State)> {
+        moves_timed(trip, state, |road| {
+            (18 * road.metres).div_ceil(5 * road.speed)
+        })
+    }
+}
+
+struct RoadTimeHalfUp;
+
+impl Planner for RoadTimeHalfUp {
+    fn moves(trip: &Trip, state: &State) -> Vec<(Move, State)> {
+        moves_timed(trip, state, |road| half_seconds(road).0.div_ceil(2).max(1))
+    }
+}
+
+struct RoadTimeHalfToOdd;
+
+impl Planner for RoadTimeHalfToOdd {
+    fn moves(trip: &Trip, state: &State) -> Vec<(Move, State)> {
+        moves_timed(trip, state, |road| match half_seconds(road) {
+            (halves, true) if halves % 2 == 1 => halves / 2 + (halves / 2 + 1) % 2,
+            _ => road.time(),
+        })
+    }
+}
+
+/// The least second is left out only towards a higher junction, so that parents rank lower.
+struct RoadTimeOfNoSecond;
+
+impl Planner for RoadTimeOfNoSecond {
+    fn moves(trip: &Trip, state: &State) -> Vec<(Move, State)> {
+        moves_timed(trip, state, |road| match half_seconds(road) {
+            (0, _) | (1, true) if road.from < road.to => 0,
+            _ => road.time(),
+        })
     }
 }
 

@@ -4,12 +4,12 @@ use super::practice::practice_map;
 use super::random::Random;
 use crate::map::{Junction, Map, Road};
 
-/// Metres and speeds that go together: seconds whose sums often coincide, seconds rounded up,
-/// hours, and roads longer than any limit.
+/// Metres and speeds that go together: seconds whose sums often coincide, seconds rounded either
+/// way or from an exact half, hours, and roads longer than any limit.
 const SCALES: [(&[u64], &[u64]); 5] = [
     (&[10, 20, 30, 40, 50], &[36]),
     (&[100, 200, 300], &[36, 72]),
-    (&[1, 20, 21, 25, 40, 50], &[36, 72, 130]),
+    (&[1, 5, 15, 20, 21, 25, 29, 35, 45, 50], &[36, 72, 130]),
     (&[80_000, 120_001, 160_000, 240_000], &[80, 90]),
     (
         &[250_000, 500_000, 1_000_000, 1_999_999, 2_000_000],
