@@ -15,6 +15,9 @@
  * Formats: maps, orders and sheets are bytes, with 32-bit words in little-endian order, as document 01 describes them.
  * Label space and replies are numbers of the machine.
  *
+ * A road takes 18 * metres / (5 * km per hour) seconds, to the nearest second, an exact half to the even one, and never
+ * below 1 (document 02, P2): 25 m at 36 km per hour take 2, 35 m take 4 and 5 m take 1.
+ *
  * The reply is three numbers: number, place, arrival. Number 0 is a success; any other is a refusal, listed below, whose
  * place says where and whose arrival is 0. A refusal changes no byte of a map or of a sheet. Give `reply` room for three
  * numbers (`reply_count` at least 3); further ones stay as they are. With less room the call does nothing and writes
@@ -22,8 +25,8 @@
  *
  * Stack, measured with the library of this version. In its machine code frames are fixed and nothing recurses, and no
  * path through it reserves a hundred bytes more, the C library's memset aside:
- *     trunk_plan                197,559 bytes; leave TRUNK_PLAN_STACK_BYTES, 256 KiB
- *     every other function at most 49,767 bytes; leave TRUNK_STACK_BYTES, 64 KiB
+ *     trunk_plan                197,575 bytes; leave TRUNK_PLAN_STACK_BYTES, 256 KiB
+ *     every other function at most 49,783 bytes; leave TRUNK_STACK_BYTES, 64 KiB
  * The main thread (8 MiB as a rule) and threads of glibc and Rust with their usual size have enough.
  */
 #ifndef TRUNK_H

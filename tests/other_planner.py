@@ -1,4 +1,4 @@
-"""Asks the other planner, tests/other, which is written from document 01 alone and shares nothing with the proved code."""
+"""Asks the other planner, tests/other, which is written from documents 01 and 02 alone and shares nothing with the proved code."""
 import pathlib
 import subprocess
 import sys

@@ -4,6 +4,9 @@
 //! Maps, orders and sheets are bytes in the formats of document 01; `include/trunk.h` lists the refusals and what each
 //! call reads and writes. Every call ends, allocates nothing, and answers bad input by a refusal that changes no byte.
 //!
+//! A road takes 18 × metres / (5 × km per hour) seconds, to the nearest second, an exact half to the even one, and never
+//! below 1.
+//!
 //! [`plan`] needs [`PLAN_STACK_BYTES`] of stack and every other call [`STACK_BYTES`], whatever the map. Threads of the
 //! standard library have 2 MiB unless they are given less.
 #![warn(missing_docs)]

@@ -1,4 +1,4 @@
-//! Another planner, written from document 01 alone to be held against the proved one.
+//! Another planner, written from documents 01 and 02 alone to be held against the proved one.
 
 pub mod case_probes;
 pub mod chains;
