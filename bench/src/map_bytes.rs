@@ -1,6 +1,6 @@
 //! The junctions and roads in the bytes of an accepted map, for the planners' conversions.
 
-use other::map::{road_time, HEADER_BYTES, JUNCTION_BYTES, ROAD_BYTES};
+use other::map::{HEADER_BYTES, JUNCTION_BYTES, ROAD_BYTES};
 use other::words::word;
 
 pub struct Road {
@@ -34,7 +34,16 @@ pub fn roads(map: &[u8]) -> impl DoubleEndedIterator<Item = Road> + '_ {
         number: index as u32 + 1,
         from: word(road, 0) as u32,
         to: word(road, 4) as u32,
-        time: road_time(word(road, 8), word(road, 12)) as u32,
+        time: road_time(word(road, 8) as u32, word(road, 12) as u32),
     };
     roads.chunks_exact(ROAD_BYTES).enumerate().map(read)
+}
+
+/// A road's seconds as in `other::map`, with one division: at an exact half an odd number gives way
+/// to the even one above it.
+pub fn road_time(metres: u32, speed: u32) -> u32 {
+    let (dividend, divisor) = (18 * metres, 5 * speed);
+    let lower = dividend / divisor;
+    let upwards = 2 * (dividend % divisor) + lower % 2 > divisor;
+    (lower + u32::from(upwards)).max(1)
 }

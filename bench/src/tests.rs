@@ -5,6 +5,7 @@ use other::case_probes::AMPLE_WORDS;
 use other::make::orders::MOST_STATES;
 use other::make::random::Random;
 use other::make::{case, Run};
+use other::map::road_time;
 use other::mapcheck::{check_map, MOST_JUNCTIONS};
 use other::moves::Trip as SmallTrip;
 use other::operations::DOCUMENT;
@@ -15,6 +16,7 @@ use other::sheet::sheet_bytes;
 
 use crate::answer::Answer;
 use crate::journeys::wander;
+use crate::map_bytes;
 use crate::maps::{grid, practice, NamedMap};
 use crate::ordinary::{self, Ordinary};
 use crate::strong::heap::Heap;
@@ -47,6 +49,16 @@ fn enumerated(run: &Run) -> Answer {
     let mut sheet = vec![0; sheet_bytes(MOST_STATES)];
     let reply = (DOCUMENT.plan)(&run.map, &run.order, &mut labels, &mut sheet);
     Answer::told(&reply, &sheet).expect("an accepted run with label space and sheet to spare")
+}
+
+#[test]
+fn road_times_are_the_other_planners() {
+    for speed in 5..=130 {
+        for metres in (1..=2_000).chain(1_998_001..=2_000_000) {
+            let other = road_time(u64::from(metres), u64::from(speed));
+            assert_eq!(u64::from(map_bytes::road_time(metres, speed)), other);
+        }
+    }
 }
 
 #[test]
