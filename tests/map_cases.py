@@ -1,6 +1,6 @@
 """Worked cases of map check, names, chain making and order check.
 
-The expected replies are written here by hand from document 01; nothing is taken from the program.
+The expected replies are written here by hand from documents 01 and 02; nothing is taken from the program.
 """
 from case_files import case
 from formats import ALL_BITS, Map, map_t, words

@@ -77,10 +77,14 @@ refused("spell 9,001 and a 7,200 road", one_road(160000, 80), order(ONE_TO_TWO, 
 for metres, seconds in ((4, 1), (5, 1), (6, 1), (14, 1), (15, 2), (16, 2), (24, 2), (25, 2), (26, 3), (34, 3), (35, 4), (36, 4), (44, 4), (45, 4), (46, 5)):
     planned("%d m at 36, time %d" % (metres, seconds), one_road(metres, 36), order(ONE_TO_TWO), 2, (seconds, seconds, seconds), [(DRIVE, 1, seconds)])
 planned("2,000,000 m at 130 take 55,385 seconds", one_road(2000000, 130), order(ONE_TO_TWO, w6=60000, w8=60000), 2, (55385, 55385, 55385), [(DRIVE, 1, 55385)])
+planned("100 m at 80, 4.5 seconds, take 4", one_road(100, 80), order(ONE_TO_TWO), 2, (4, 4, 4), [(DRIVE, 1, 4)])
+planned("300 m at 80, 13.5 seconds, take 14", one_road(300, 80), order(ONE_TO_TWO), 2, (14, 14, 14), [(DRIVE, 1, 14)])
+FAR = order(ONE_TO_TWO, w3=200000, w6=200000, w8=200000)
+planned("1,999,985 m at 36, 199,998.5 seconds, take 199,998", one_road(1999985, 36), FAR, 2, (199998, 199998, 199998), [(DRIVE, 1, 199998)])
+planned("1,999,995 m at 36, 199,999.5 seconds, take 200,000", one_road(1999995, 36), FAR, 2, (200000, 200000, 200000), [(DRIVE, 1, 200000)])
 planned("1,251 m at 90, latest 50", one_road(1251, 90), order(ONE_TO_TWO, w3=50), 2, (50, 50, 50), [(DRIVE, 1, 50)])
-refused("1,251 m at 90, latest 49", one_road(1251, 90), order(ONE_TO_TWO, w3=49), 13, 1)
-planned("1,251 m at 90, spell limit 50", one_road(1251, 90), order(ONE_TO_TWO, w6=50), 2, (50, 50, 50), [(DRIVE, 1, 50)])
-refused("1,251 m at 90, spell limit 49", one_road(1251, 90), order(ONE_TO_TWO, w6=49), 13, 1)
+planned("25 m at 36, latest 2", one_road(25, 36), order(ONE_TO_TWO, w3=2), 2, (2, 2, 2), [(DRIVE, 1, 2)])
+refused("35 m at 36, latest 3", one_road(35, 36), order(ONE_TO_TWO, w3=3), 13, 1)
 # 28 m at once are 2.8 seconds, so 3; twice 14 m are 1.4 seconds each, so 2 in all.
 SHORTER_BY_ROUNDING = chained([("A", NO_PARK), ("B", NO_PARK), ("C", NO_PARK)], [(1, 3, 28, 36), (1, 2, 14, 36), (2, 3, 14, 36)])
 planned("the first to arrive by rounded times", SHORTER_BY_ROUNDING.bytes(), order(), 3, (2, 2, 2), [(DRIVE, 2, 1), (DRIVE, 3, 2)])

@@ -7,10 +7,15 @@ from case_files import case
 from formats import ALL_BITS, BREAK, DRIVE, Map, map_t, order, sheet, words
 
 T = map_t().bytes()
-# One junction, a car park, with a road to itself of 50 seconds (1,250 m at 90).
-LOOP = Map([[1, 1, 0, 1]], [[1, 1, 1250, 90, 0]], b"x").bytes()
-# The same of 1,251 m: 50.04 seconds, so 50 since document 02 (P2), and 51 before.
-ROUNDED_LOOP = Map([[1, 1, 0, 1]], [[1, 1, 1251, 90, 0]], b"x").bytes()
+
+
+def loop(metres, speed):
+    """One junction, a car park, with a road to itself."""
+    return Map([[1, 1, 0, 1]], [[1, 1, metres, speed, 0]], b"x").bytes()
+
+
+LOOP = loop(1250, 90)  # 50 seconds
+ROUNDED_LOOP = loop(1251, 90)  # 50.04 seconds, so 50 since document 02 (P2), and 51 before
 HOME = [1, 1, 7, 100000, 5, 6, 16200, 2700, 32400, 39600]
 PLAN = [(DRIVE, 1, 10800), (BREAK, 2, 13500), (DRIVE, 2, 20700)]
 TRUE = sheet(PLAN, 20700, 7200, 18000)
@@ -58,6 +63,9 @@ audit("N is not compared", T, order(), sheet(PLAN, 20700, 7200, 18000, 99), "0 3
 audit("no moves, true header", LOOP, order(HOME), sheet([], 7, 5, 6), "0 0 7")
 audit("a pause at source audits", LOOP, order(HOME), sheet([(2, 1, 2707)], 2707, 0, 6), "0 1 2707")
 audit("a road time rounded down", ROUNDED_LOOP, order(HOME), sheet([(1, 1, 57)], 57, 55, 56), "0 1 57")
+audit("2.5 seconds are 2", loop(25, 36), order(HOME), sheet([(1, 1, 9)], 9, 7, 8), "0 1 9")
+audit("3.5 seconds are 4", loop(35, 36), order(HOME), sheet([(1, 1, 11)], 11, 9, 10), "0 1 11")
+audit("0.5 seconds are 1", loop(5, 36), order(HOME), sheet([(1, 1, 8)], 8, 6, 7), "0 1 8")
 audit("a sheet that is not the first to arrive audits", T, order(), sheet([(1, 1, 10800), (3, 2, 50400), (1, 2, 57600)], 57600, 7200, 7200), "0 3 57600")
 
 # --- refusals 1 to 11 before the sheet is looked at ----------------------------------------------

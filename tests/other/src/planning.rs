@@ -10,7 +10,7 @@ use crate::sheet::{Record, Sheet};
 pub const WORDS_OF_A_LABEL: usize = 8;
 pub const MOST_LABELS: usize = 1_000_000;
 
-/// The rules of planning. The defaults are document 01's; a wrong copy changes one of them.
+/// The rules of planning. The defaults are the documents'; a wrong copy changes one of them.
 pub trait Planner {
     fn moves(trip: &Trip, state: &State) -> Vec<(Move, State)> {
         trip.legal_moves(state)

@@ -34,7 +34,7 @@ pub fn wrong_copies() -> Vec<WrongCopy> {
         ("road-time-rounded-up", plan::<RoadTimeRoundedUp>),
         ("road-time-half-up", plan::<RoadTimeHalfUp>),
         ("road-time-half-to-odd", plan::<RoadTimeHalfToOdd>),
-        ("road-time-of-no-second", plan::<RoadTimeOfNoSecond>),
+        ("no-least-second", plan::<NoLeastSecond>),
         ("full-before-looking", full_before_looking),
         ("always-no-road", always_no_road),
         ("every-sheet-short", every_sheet_short),
@@ -258,10 +258,10 @@ impl Planner for RoadTimeHalfToOdd {
     }
 }
 
-/// The least second is left out only towards a higher junction, so that parents rank lower.
-struct RoadTimeOfNoSecond;
+/// A road of 0 seconds only leads to a higher junction, since a label's parent must rank before it.
+struct NoLeastSecond;
 
-impl Planner for RoadTimeOfNoSecond {
+impl Planner for NoLeastSecond {
     fn moves(trip: &Trip, state: &State) -> Vec<(Move, State)> {
         moves_timed(trip, state, |road| match half_seconds(road) {
             (0, _) | (1, true) if road.from < road.to => 0,
@@ -270,7 +270,7 @@ impl Planner for RoadTimeOfNoSecond {
     }
 }
 
-/// Document 01's reply, and the sheet it would write.
+/// The right reply, with the sheet written as it must be.
 fn right_plan(map: &[u8], order: &[u8], labels: &mut [u32], sheet: &mut [u8]) -> Reply {
     plan::<Document>(map, order, labels, sheet)
 }

@@ -1,4 +1,4 @@
-//! Document 01's trial trips.
+//! Document 01's trial trips, with road times as document 02 (P2) rounds them.
 
 use super::fixtures::*;
 use crate::listing::listings;
