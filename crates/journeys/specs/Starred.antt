@@ -1,4 +1,4 @@
--- The starred trial trips of document 01, with the road times of document 02 (P2), proved together: antt computes one test. Assumes nothing.
+-- The starred trial trips of document 01, with road times as document 02 (P2) rounds them, proved together: antt computes one test. Assumes nothing.
 use mathlib.Core.Bool.{Bool, true, false, not, _&&_}
 use mathlib.Core.List.{List, [], _∷_, _++_}
 use mathlib.Core.Option.{Option, none, some}
@@ -94,7 +94,7 @@ right (replies latest fit sheet reply) = sameReply (planReply mapT (orderT lates
 right (drives spell is) = sameBool (legal (tripT .order) (after tripT (atLay 0 spell spell) (move 1 2))) is
 right (dominating b a is) = sameBool (dominatesState b a) is
 
--- in the order of document 01, with document 02's road times halfway between two seconds; then T's sheet
+-- in the order of document 01, its road times followed by some that lie halfway between two seconds; then T's sheet
 abbrev pub starredCases : List Case
 starredCases =
     takes 240000 80 10800

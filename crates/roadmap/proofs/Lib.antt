@@ -1,3 +1,3 @@
--- The laws of the map's format and of road times that callers cite.
+-- The laws of road times that callers cite, and those of rounding below them.
 pub mod RoadTime
 pub mod Rounding

@@ -41,7 +41,7 @@ module _ (metres speed : ℕ) (moving : 1 ≤ speed) where
     pub nearest-second : 2 * apart (5 * speed * roadSeconds metres speed) (18 * metres) ≤ 5 * speed
     nearest-second = time-rounds .near
 
-    -- of two as near the even one is taken
+    -- of two equally near seconds the even one is taken
     pub tie-is-even : 2 * apart (5 * speed * roadSeconds metres speed) (18 * metres) ≡ 5 * speed → roadSeconds metres speed % 2 ≡ 0
     tie-is-even = time-rounds .even
 
@@ -52,7 +52,7 @@ module _ (metres speed : ℕ) (moving : 1 ≤ speed) where
         (ordered (omega arith) (le-refl _) (le-refl _) other time-rounds)
         (ordered (omega arith) (le-refl _) (le-refl _) time-rounds other)
 
-  -- every road takes at least 1 second
+  -- every road takes at least 1 second; in this form, with premises that it can do without, `moves` cites it
   pub at-least-1 : 1 ≤ metres → 1 ≤ roadSeconds metres speed
   unfolding roadSeconds
   at-least-1 far = omega arith

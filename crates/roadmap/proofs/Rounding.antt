@@ -1,5 +1,5 @@
--- The laws of rounding to the nearest whole number, an exact half to the even one: it is nearest and even, and a higher quotient is
--- rounded no lower. Assumes nothing.
+-- The laws of rounding to the nearest whole number, an exact half to the even one: it is nearest and even, and a higher dividend or a
+-- lower divisor never gives less. Assumes nothing.
 use mathlib.Core.Path.{_≡_, _∙_, ap}
 use Prim.Native.Nat.{ℕ, suc, _+_, _*_, _-_, _/_, _%_, _≤_, _<_}
 use native.Mathlib.Omega.{arith}
@@ -50,7 +50,7 @@ module _ (n d : ℕ) (positive : 1 ≤ d) where
             rw (takes-upper n d (omega arith)) record { near = omega (arith, whole); even = λ tie. omega (arith, whole) }
       ]
 
--- of two quotients the higher is rounded no lower
+-- a dividend that is no higher and a divisor that is no lower give no more
 pub ordered : {n n′ d d′ t t′ : ℕ} → 1 ≤ d → n ≤ n′ → d ≤ d′ → Rounds n d′ t → Rounds n′ d t′ → t ≤ t′
 ordered {n} {n′} {d} {d′} {t} {t′} positive less more a b =
     elim (decLe t t′) [ yes below ↦ below | no above ↦ absurd (crossed (omega arith)) ]

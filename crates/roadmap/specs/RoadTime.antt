@@ -3,7 +3,8 @@ use mathlib.Core.Bool.{true, false}
 use Prim.Native.Nat.{ℕ, _+_, _*_, _/_, _%_, max}
 use lib.Dec.{ltb, eqb}
 
--- the quotient to the nearest whole number, an exact half to the even one
+-- the quotient to the nearest whole number, an exact half to the even one: the lower number, the even one of two or the upper number, as
+-- twice the remainder is below, at or above the divisor
 unfoldable pub nearest : ℕ → ℕ → ℕ
 nearest dividend divisor =
     let lower = dividend / divisor in

@@ -219,7 +219,7 @@ fn nearest(dividend: u32, divisor: u32) -> u32
 }
 
 // The seconds that so many metres take at so many kilometres an hour. Half a second and less takes
-// the least second, which is asked first because it needs no division.
+// the least second; this is asked first because it needs no division.
 pub fn road_seconds(metres: u32, speed: u32) -> u32
     requires { ⌜ (metres ≤ mostMetres) × (1 ≤ speed) × (speed ≤ mostSpeed) ⌝ }
     ensures { λ r. ⌜ r ≡ roadSeconds metres speed ⌝ }
