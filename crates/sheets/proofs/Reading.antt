@@ -11,9 +11,10 @@ use native.Mathlib.Omega.{arith}
 use borrow.Author.Tests.{ltb-false, eqb-true, not-false, le-ltb, eq-eqb}
 use lib.Dec.{ltb, eqb}
 use lib.ListN.{length, take, drop, getD, length-append}
-use lib.Seq.{take-at, drop-nil, getD-append-add}
+use lib.Seq.{take-at, drop-nil}
 use Rattle.booleans.proofs.Tests.{cases, some-not-none, or-false}
 use Rattle.words.specs.Word.{wordAt}
+use Rattle.words.proofs.Joined.{word-past}
 use Rattle.sheets.specs.declared.Heading.{Heading}
 use Rattle.sheets.specs.declared.Row.{Row}
 use Rattle.sheets.specs.Sheet.{wordBytes, headerBytes, recordBytes, sheetNeeded, headingBytes, headingOf, rowBytes, rowsBytes, rowAt, rowsOf, mostMoves, sheetAfter, torn, tornSheet}
@@ -23,15 +24,6 @@ use Rattle.sheets.proofs.Bytes.{length-row, length-rows, length-heading
 
 digits : (w : ℕ) → w % 256 + w / 256 % 256 * 256 + w / 65536 % 256 * 65536 + w / 16777216 * 16777216 ≡ w
 digits w = omega arith
-
-byte-past : (p t : List ℕ) (n i : ℕ) → length p ≡ n → getD (p ++ t) (n + i) 0 ≡ getD t i 0
-byte-past p t n i e = rw (← e) (getD-append-add p t i 0)
-
--- a word behind the first n bytes
-pub word-past : (p t : List ℕ) (n at : ℕ) → length p ≡ n → wordAt (p ++ t) (n + at) ≡ wordAt t at
-unfolding wordAt
-word-past p t n at e =
-    rw (add-assoc n at 1, add-assoc n at 2, add-assoc n at 3, byte-past p t n at e, byte-past p t n (at + 1) e, byte-past p t n (at + 2) e, byte-past p t n (at + 3) e)
 
 -- the header of bytes that begin with it
 pub heading-here : (h : Heading) (t : List ℕ) → headingOf (headingBytes h ++ t) ≡ h
