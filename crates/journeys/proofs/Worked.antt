@@ -6,6 +6,7 @@ use Prim.Native.Nat.{ℕ}
 use lib.Dec.{T}
 use Rattle.replies.specs.declared.Reply.{Reply}
 use Rattle.replies.specs.Told.{succeeded}
+use Rattle.replies.specs.Alike.{sameReply}
 use Rattle.driving.specs.Order.{europeanRules}
 use Rattle.moves.specs.Trip.{Stretch, Trip}
 use Rattle.theory.specs.Lists.{every}
@@ -14,7 +15,7 @@ use Rattle.sheets.specs.declared.Row.{Row}
 use Rattle.journeys.specs.Labels.{answerIn, labelsIn}
 use Rattle.journeys.specs.Plan.{planMoves, planRows}
 use Rattle.journeys.specs.Planning.{searchReply}
-use Rattle.journeys.specs.Starred.{row, sameReply, sameRows}
+use Rattle.journeys.specs.Starred.{row, sameRows}
 
 -- a trip by the European rules, departure 0, latest 3,000, with this reply (100 labels fit, the sheet has 100 bytes) and these rows
 record Worked : Type 0 where

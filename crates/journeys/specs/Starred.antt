@@ -2,11 +2,13 @@
 use mathlib.Core.Bool.{Bool, true, false, not, _&&_}
 use mathlib.Core.List.{List, [], _∷_, _++_}
 use mathlib.Core.Option.{Option, none, some}
-use Prim.Native.Nat.{ℕ, _/_, _%_}
+use Prim.Native.Nat.{ℕ}
 use lib.Dec.{T, eqb}
 use Rattle.words.specs.Word.{wordAt}
+use Rattle.words.specs.Spelled.{spelled}
 use Rattle.replies.specs.declared.Reply.{Reply}
 use Rattle.replies.specs.Told.{succeeded, refusedAt}
+use Rattle.replies.specs.Alike.{sameReply}
 use Rattle.replies.specs.First.{lowest}
 use Rattle.roadmap.specs.RoadTime.{nearest, roadSeconds}
 use Rattle.roadmap.specs.Format.{format, junctionCount, roadCount, nameBytes, junctionWord, roadWord}
@@ -23,11 +25,6 @@ use Rattle.sheets.specs.declared.Row.{Row}
 use Rattle.journeys.specs.Labels.{answerIn, labelsIn}
 use Rattle.journeys.specs.Plan.{planMoves, planRows}
 use Rattle.journeys.specs.Planning.{planReply, tripFrom}
-
--- the bytes of a list of words, little-endian
-abbrev pub spelled : List ℕ → List ℕ
-spelled [] = []
-spelled (w ∷ ws) = w % 256 ∷ w / 256 % 256 ∷ w / 65536 % 256 ∷ w / 16777216 ∷ spelled ws
 
 -- map T: Hub 1, Lay 2 (car park), End 3; roads 1 from 1 to 2, 2 from 2 to 3, 3 from 1 to 3
 abbrev pub mapT : List ℕ
@@ -70,9 +67,6 @@ row kind number clock = record { kind = kind; number = number; clock = record { 
 abbrev pub sameBool : Bool → Bool → Bool
 sameBool true b = b
 sameBool false b = not b
-
-abbrev pub sameReply : Reply → Reply → Bool
-sameReply a b = eqb (a .number) (b .number) && (eqb (a .place) (b .place) && eqb (a .arrival) (b .arrival))
 
 abbrev pub sameRows : List Row → List Row → Bool
 sameRows [] [] = true

@@ -1,3 +1,4 @@
 pub mod Told
 pub mod First
 pub mod Pick
+pub mod Alike
