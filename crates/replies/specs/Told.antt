@@ -2,11 +2,12 @@
 use Prim.Native.Nat.{ℕ}
 use Rattle.replies.specs.declared.Reply.{Reply}
 use Rattle.replies.specs.declared.Refusal.{Refusal}
-use Rattle.replies.specs.declared.Refusal.the-variants.{ShortMap, StrangeMap, Oversize, Misfit, BadJunction, BadRoad, BrokenChain, BadLettering, BadOrder, BadRules, BadTrip, Full, NoRoad, ShortSheet, TornSheet, ForeignMove, Overrun, FalseFigure, Stray, UnknownName}
+use Rattle.replies.specs.declared.Refusal.the-variants.{ShortMap, StrangeMap, Oversize, Misfit, BadJunction, BadRoad, BrokenChain, BadLettering, BadOrder, BadRules, BadTrip, Full, NoRoad, ShortSheet, TornSheet, ForeignMove, Overrun, FalseFigure, Stray, UnknownName, TornTrace, OddRecord, PastLimit}
 use Rattle.replies.specs.declared.Check.{Check}
 use Rattle.replies.specs.declared.NameReply.{NameReply}
 use Rattle.replies.specs.declared.Timing.{Timing}
 use Rattle.replies.specs.declared.Planning.{Planning}
+use Rattle.replies.specs.declared.Replaying.{Replaying}
 
 -- a success: number 0
 abbrev pub succeeded : ℕ → ℕ → Reply
@@ -37,6 +38,9 @@ toldRefusal (Overrun move) = refusedAt 17 move
 toldRefusal (FalseFigure move) = refusedAt 18 move
 toldRefusal (Stray junction) = refusedAt 19 junction
 toldRefusal (UnknownName junction) = refusedAt 20 junction
+toldRefusal (TornTrace length) = refusedAt 21 length
+toldRefusal (OddRecord index) = refusedAt 22 index
+toldRefusal (PastLimit index) = refusedAt 23 index
 
 -- map checked, order accepted or map chained: 0, 0, 0
 abbrev pub toldCheck : Check → Reply
@@ -57,3 +61,8 @@ toldTiming (Timing.Refused why) = toldRefusal why
 abbrev pub toldPlan : Planning → Reply
 toldPlan (Planning.Planned labels arrival) = succeeded labels (arrival .0)
 toldPlan (Planning.Refused why) = toldRefusal why
+
+-- replayed: 0, records, 0
+abbrev pub toldReplaying : Replaying → Reply
+toldReplaying (Replaying.Replayed records) = succeeded records 0
+toldReplaying (Replaying.Refused why) = toldRefusal why

@@ -1,7 +1,7 @@
 // What the operations answer. Each answer is an enum; `specs/Told.antt` gives its number, place and
 // arrival, and every contract speaks of an answer through that definition.
 ghost use mathlib.Core.Path.{_≡_};
-ghost use Rattle.replies.specs.Told.{refusedAt, toldRefusal, toldCheck, toldName, toldTiming, toldPlan};
+ghost use Rattle.replies.specs.Told.{refusedAt, toldRefusal, toldCheck, toldName, toldTiming, toldPlan, toldReplaying};
 use seconds::Clock;
 
 // Why an operation refuses, with the place: in the order of the refusals' numbers, from 1.
@@ -27,6 +27,9 @@ pub enum Refusal {
     FalseFigure(usize),
     Stray(usize),
     UnknownName(usize),
+    TornTrace(usize),
+    OddRecord(usize),
+    PastLimit(usize),
 }
 
 // Map check, order check and chain making.
@@ -50,6 +53,12 @@ pub enum Timing {
 // Planning.
 pub enum Planning {
     Planned { labels: u32, arrival: Clock },
+    Refused(Refusal),
+}
+
+// Replaying a trace: how many records it has.
+pub enum Replaying {
+    Replayed(usize),
     Refused(Refusal),
 }
 
@@ -94,6 +103,9 @@ fn refusal_reply(why: Refusal) -> Reply
         Refusal::FalseFigure(place) => refused_at(18, place),
         Refusal::Stray(place) => refused_at(19, place),
         Refusal::UnknownName(place) => refused_at(20, place),
+        Refusal::TornTrace(place) => refused_at(21, place),
+        Refusal::OddRecord(place) => refused_at(22, place),
+        Refusal::PastLimit(place) => refused_at(23, place),
     }
 }
 
@@ -153,6 +165,21 @@ impl Planning {
                 arrival: arrival.0,
             },
             Planning::Refused(why) => refusal_reply(why),
+        }
+    }
+}
+
+impl Replaying {
+    pub fn reply(self) -> Reply
+        ensures { λ r. ⌜ r ≡ toldReplaying self ⌝ }
+    {
+        match self {
+            Replaying::Replayed(records) => Reply {
+                number: 0,
+                place: records,
+                arrival: 0,
+            },
+            Replaying::Refused(why) => refusal_reply(why),
         }
     }
 }

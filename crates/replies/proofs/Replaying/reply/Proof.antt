@@ -1,0 +1,12 @@
+use mathlib.Core.Path.{sym, ap}
+use borrow.Author.Needs.{needs}
+use Rattle.replies.specs.Told.{toldReplaying}
+use Rattle.replies.proofs.Replaying.reply.Statement.{statement}
+use Rattle.replies.proofs.Replaying.reply.Tie as tie
+
+returns : tie.Need-returns
+returns c = sym (ap toldReplaying (c .before .self .given .1))
+
+pub reply-spec : {M : Type 1} → statement M
+reply-spec =
+    tie.close (tie.spec (λ c. search needs) (λ c. search needs) (λ c κs. search needs) returns (λ c. search needs))
