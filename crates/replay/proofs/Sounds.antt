@@ -1,0 +1,75 @@
+-- A replay under way keeps sound figures. Assumes nothing.
+use mathlib.Core.Path.{_≡_, refl}
+use mathlib.Core.Bool.{Bool, true, false, not}
+use mathlib.Core.Logic.{⊎-elim}
+use Prim.Native.Nat.{ℕ, _+_, _≤_}
+use native.Mathlib.Omega.{arith}
+use borrow.Author.Tests.{ltb-true, ltb-false, not-false}
+use lib.Dec.{T, leb, ltb}
+use Rattle.booleans.proofs.Tests.{cases, or-false, true-T}
+use Rattle.theory.specs.Figures.{noneAbove}
+use Rattle.theory.proofs.Figures.{above-head, above-tail, above-trans}
+use Rattle.driving.specs.declared.Figures.{Figures}
+use Rattle.driving.specs.declared.Rules.{Rules}
+use Rattle.driving.specs.Accepted.{SoundRules, SoundFigures}
+use Rattle.driving.specs.Hours.{wheelFigures, wheelLimits, highestLimits, drivenOn}
+use Rattle.driving.proofs.Hours.{figures-within, limits-within}
+use Rattle.replay.specs.declared.TraceRecord.{TraceRecord}
+use Rattle.replay.specs.declared.Underway.{Underway}
+use Rattle.replay.specs.Trace.{pause, isDriving, isPause}
+use Rattle.replay.specs.Replay.{afterPause, pickFigures, mostSeconds, isOdd}
+use Rattle.replay.specs.Steps.{lengthened, settled, Sound, stepOn, goesPast}
+
+-- the figures of a sound replay are far below what a word holds
+pub drivable : (f : Figures) (rules : Rules) → SoundRules rules → SoundFigures f rules → T (noneAbove (wheelFigures f) highestLimits)
+drivable f rules sound within = above-trans (wheelFigures f) (wheelLimits rules) highestLimits (figures-within f rules within) (limits-within rules sound)
+
+-- the seconds of a record that is not odd
+pub seconds-high : (r : TraceRecord) → isOdd r ≡ false → r .seconds ≤ mostSeconds
+unfolding isOdd
+seconds-high r even =
+    let in-range = or-false {a = ltb pause (r .activity)} even .1 in
+    ltb-false mostSeconds (r .seconds) (or-false {a = ltb (r .seconds) 1} in-range .1)
+
+-- a pause leaves sound figures sound
+pub paused-sound : (f : Figures) (rules : Rules) (seconds : ℕ) → SoundFigures f rules → SoundFigures (afterPause rules seconds f) rules
+paused-sound f rules seconds sound = by (leb (rules .«rest_time» .0) seconds) (leb (rules .«break_time» .0) seconds)
+  where
+    by : (rests breaks : Bool) → SoundFigures (pickFigures rests (record { spell = record { 0 = 0 }; shift = record { 0 = 0 } }) (pickFigures breaks (record { spell = record { 0 = 0 }; shift = f .shift }) f)) rules
+    by true breaks = record { spell-high = omega arith; figures-rise = omega arith; shift-high = omega arith }
+    by false true = record { spell-high = omega arith; figures-rise = omega arith; shift-high = sound .shift-high }
+    by false false = sound
+
+driven-sound : (f : Figures) (rules : Rules) (seconds : ℕ) → SoundFigures f rules → T (noneAbove (wheelFigures (drivenOn seconds f)) (wheelLimits rules)) → SoundFigures (drivenOn seconds f) rules
+driven-sound f rules seconds sound within =
+    record {
+      spell-high = above-head _ _ _ _ within;
+      figures-rise = omega (arith, sound);
+      shift-high = above-head _ _ _ _ (above-tail _ _ _ _ within);
+    }
+
+pub lengthened-high : (p s : ℕ) → lengthened p s ≤ mostSeconds
+lengthened-high p s =
+    ⊎-elim
+    (λ (short : ltb (p + s) mostSeconds ≡ true). rw short (omega (arith, ltb-true (p + s) mostSeconds short)))
+    (λ (long : ltb (p + s) mostSeconds ≡ false). rw long (omega arith))
+    (cases (ltb (p + s) mostSeconds))
+
+-- a record that does not stop the replay leaves it sound
+pub step-sound : (rules : Rules) (u : Underway) (r : TraceRecord) → Sound rules u →
+    goesPast rules u r ≡ false → Sound rules (stepOn rules u r)
+step-sound rules u r sound within = by (isPause r) (isDriving r) refl refl
+  where
+    still : SoundFigures (settled rules u) rules
+    still = paused-sound (u .figures) rules (u .pause) (sound .sound-figures)
+
+    by : (pauses drives : Bool) → isPause r ≡ pauses → isDriving r ≡ drives → Sound rules (stepOn rules u r)
+    by true drives is-pause is-drive = rw is-pause (record { sound-rules = sound .sound-rules; sound-figures = sound .sound-figures; pause-high = lengthened-high (u .pause) (r .seconds) })
+    by false true is-pause is-drive =
+        rw (is-pause, is-drive)
+        (record {
+          sound-rules = sound .sound-rules;
+          sound-figures = driven-sound (settled rules u) rules (r .seconds) still (true-T (not-false (noneAbove (wheelFigures (drivenOn (r .seconds) (settled rules u))) (wheelLimits rules)) (rw (is-pause, is-drive) at within)));
+          pause-high = omega arith;
+        })
+    by false false is-pause is-drive = rw (is-pause, is-drive) (record { sound-rules = sound .sound-rules; sound-figures = still; pause-high = omega arith })

@@ -1,0 +1,27 @@
+-- Each return is a case of `afterPause`.
+use mathlib.Core.Path.{_∙_, sym}
+use native.Mathlib.Omega.{arith}
+use borrow.Author.Needs.{needs}
+use Rattle.replay.proofs.Joining.{clears-both, clears-spell, clears-nothing}
+use Rattle.replay.proofs.after_pause.Statement.{statement}
+use Rattle.replay.proofs.after_pause.Tie as tie
+
+returns : tie.Need-returns
+returns c =
+    let args = c .before .before .before .args in
+    c .cleared .ensures ∙ sym (clears-both (args .rules) (args .seconds) (args .figures) (omega (arith, c .before .if1 .taken)))
+
+returns-2 : tie.Need-returns-2
+returns-2 c =
+    let no-rest = c .before .before .before in
+    let args = no-rest .before .before .args in
+    c .cleared2 .ensures ∙ sym (clears-spell (args .rules) (args .seconds) (args .figures) (omega (arith, no-rest .if1 .left)) (omega (arith, c .before .if2 .taken)))
+
+returns-3 : tie.Need-returns-3
+returns-3 c =
+    let no-rest = c .before .before in
+    let args = no-rest .before .before .args in
+    sym (clears-nothing (args .rules) (args .seconds) (args .figures) (omega (arith, no-rest .if1 .left)) (omega (arith, c .if2 .left)))
+
+pub after-pause-spec : {M : Type 1} → statement M
+after-pause-spec = tie.close (tie.spec (λ c κs. search needs) returns (λ c κs. search needs) returns-2 returns-3)

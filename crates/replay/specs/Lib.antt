@@ -1,0 +1,4 @@
+pub mod Trace
+pub mod Replay
+pub mod InTurn
+pub mod Steps
