@@ -1,10 +1,11 @@
--- The user's three demands as theorems over the operations' contracts, and what document 01 says beside them. Assumes nothing.
--- The user's words, and document 01's, stand in quotes above what says them. The contracts: `Planned` (planner), `Retimed` (retiming),
--- `ChainMaking` (mapedit) and, for the other operations, the equation of what is told.
+-- The user's three demands as theorems over the operations' contracts, and what the documents say beside them. Assumes nothing.
+-- The user's words, and the documents', stand in quotes above what says them. The contracts: `Planned` (planner), `Retimed` (retiming),
+-- `ChainMaking` (mapedit), `Replayed` (replay) and, for the other operations, the equation of what is told.
 use mathlib.Core.Path.{_≡_, refl, sym, ap, _∙_}
 use mathlib.Core.Bool.{Bool, true, false}
 use mathlib.Core.List.{List, [], _∷_, _++_}
 use mathlib.Core.Logic.{_↔_}
+use mathlib.Core.Option.{none}
 use Prim.Native.Nat.{ℕ, _+_, _≤_, _<_}
 use native.Mathlib.Omega.{arith}
 use borrow.Author.Tests.{ne-eqb}
@@ -13,15 +14,21 @@ use lib.ListN.{length, drop, getD}
 use Rattle.replies.specs.declared.Check.{Check}
 use Rattle.replies.specs.declared.NameReply.{NameReply}
 use Rattle.replies.specs.declared.Planning.{Planning}
+use Rattle.replies.specs.declared.Replaying.{Replaying}
 use Rattle.replies.specs.declared.Reply.{Reply}
 use Rattle.replies.specs.declared.Timing.{Timing}
 use Rattle.replies.specs.First.{_at_, firstOf}
-use Rattle.replies.specs.Told.{succeeded, refusedAt, toldCheck, toldName, toldTiming, toldPlan}
+use Rattle.replies.specs.Told.{succeeded, refusedAt, toldCheck, toldName, toldTiming, toldPlan, toldReplaying}
 use Rattle.replies.specs.Pick.{pick}
 use Rattle.mapcheck.specs.MapCheck.{mapTests, chainingTests, AcceptedMap}
 use Rattle.mapedit.specs.Name.{unknownName, nameReply}
 use Rattle.mapedit.specs.Chaining.{chained, chainingReply, afterChaining, ChainMaking}
-use Rattle.driving.specs.Order.{orderOf, orderTests}
+use Rattle.driving.specs.declared.Figures.{Figures}
+use Rattle.driving.specs.declared.Rules.{Rules}
+use Rattle.driving.specs.Order.{orderOf, badFigures, orderTests}
+use Rattle.replay.specs.Trace.{recordCount, recordsOf}
+use Rattle.replay.specs.Replay.{upToDate, tornTrace, replayTests, Replayed}
+use Rattle.replay.specs.InTurn.{noneGoesOn, behind}
 use Rattle.states.specs.declared.State.{State}
 use Rattle.moves.specs.declared.Move.{Move}
 use Rattle.moves.specs.Trip.{Trip, tripOf}
@@ -48,6 +55,7 @@ use Rattle.demands.proofs.Refusals.{replies-by, by-number}
 use Rattle.demands.proofs.Counted.{counts-labels}
 use Rattle.demands.proofs.Said.{accepted-by, full-said, full-place, no-road-said, no-road-place, plans-said, short-said}
 use Rattle.demands.proofs.Chained.{length-chained, chained-passes, chained-else}
+use Rattle.demands.proofs.Replayed.{left-refused, told-accepted, left-accepted, sound-left, told-in-turn, left-in-turn, told-first}
 use Rattle.demands.proofs.Retimed.{state, same-moves, same-labels, rest-retimed, length-retimed, told-retimed, retimed-holds, retimed-passes}
 use Rattle.demands.proofs.Audited.{reached-by, audited-holds, audited-told}
 use Rattle.demands.proofs.Written.{Wrote, wrote, rest-written, length-written, heading-written, holds-journey, none-earlier, none-lower}
@@ -110,6 +118,44 @@ module _ {map map′ : List ℕ} {answer : Check} (made : ChainMaking map map′
   -- "and the map passes."
   pub chain-making-passes : toldCheck answer .number ≡ 0 → AcceptedMap map′
   chain-making-passes = chained-passes made
+
+-- Document 02, P3: "We want them replayed from a trace".
+module _ {trace : List ℕ} {rules : Rules} {before after : Figures} {answer : Replaying} (replayed : Replayed trace rules before after answer) where
+  pub replay-replies : RepliesBy (replayTests trace rules before) (toldReplaying answer)
+  replay-replies = replies-by (replayTests trace rules before) _ refl tt (replayed .reply)
+
+  -- "a refused trace leaves them as at the start,"
+  pub replay-leaves : ¬ (toldReplaying answer .number ≡ 0) → after ≡ before
+  replay-leaves refused = left-refused replayed refused
+
+  module _ (done : toldReplaying answer .number ≡ 0) where
+    -- "and an accepted one replies 0, records, 0."
+    pub replay-tells : toldReplaying answer ≡ succeeded (recordCount trace) 0
+    replay-tells = told-accepted replayed done
+
+    -- "brought up to date by each activity", neighbouring pauses as one
+    pub replay-updates : after ≡ upToDate rules (recordsOf trace) before
+    replay-updates = left-accepted replayed done
+
+    -- the figures that it leaves are such as an order, or the next trace, may start with
+    pub replay-sound : badFigures after rules ≡ none
+    replay-sound = sound-left replayed done
+
+-- A trace and then another from the figures that it left: the same as both in one, where the first does not end in a pause or the second does
+-- not begin with one.
+module _ {one two : List ℕ} {rules : Rules} {before between after after-both : Figures} {first second both : Replaying}
+    (replayed-one : Replayed one rules before between first) (replayed-two : Replayed two rules between after second) (replayed-both : Replayed (one ++ two) rules before after-both both) where
+  module _ (done : toldReplaying first .number ≡ 0) (apart : T (noneGoesOn (recordsOf one) (recordsOf two))) where
+    -- the reply is the second's, with what the first has before it
+    pub replay-in-turn : toldReplaying both ≡ behind one (toldReplaying second)
+    replay-in-turn = told-in-turn replayed-one replayed-two replayed-both done apart
+
+    pub replay-in-turn-updates : toldReplaying second .number ≡ 0 → after-both ≡ after
+    replay-in-turn-updates = left-in-turn replayed-one replayed-two replayed-both done apart
+
+  -- and where the first is refused, both are refused likewise: also where a pause goes on
+  pub replay-in-turn-refused : ¬ (toldReplaying first .number ≡ 0) → tornTrace one ≡ none → tornTrace two ≡ none → toldReplaying both ≡ toldReplaying first
+  replay-in-turn-refused = told-first two replayed-one replayed-both
 
 module _ {map order sheet out out′ : List ℕ} {answer : Timing} (retimed : Retimed map order sheet out out′ answer) where
   pub retiming-replies : RepliesBy (retimingTests map order sheet out (timing false map (orderOf order) sheet)) (toldTiming answer)

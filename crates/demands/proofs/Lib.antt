@@ -5,6 +5,7 @@ pub mod Counted
 pub mod Said
 pub mod Chained
 pub mod Decoded
+pub mod Replayed
 pub mod Retimed
 pub mod Audited
 pub mod Written
