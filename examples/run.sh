@@ -1,22 +1,27 @@
 #!/usr/bin/env bash
-# Proves and builds the static library, builds and runs the C example, tests the Rust wrapper and runs its examples:
+# Proves and builds the static library, builds and runs the C examples, tests the Rust wrapper and runs its examples:
 # examples/run.sh [--built]. With --built the library is taken as it stands in target/staticlib.
-# The examples for map T must print examples/plan_map_t.expected; a map made, planned, kept and audited must be map T
-# with its plan. Needs rt, a C compiler and cargo; no network.
+# The examples that are there in C and in Rust must print examples/NAME.expected; a map made, planned, kept and audited
+# must be map T with its plan. Needs rt, a C compiler and cargo; no network.
 set -euo pipefail
 cd "$(dirname "$0")/.."
 if [ "${1:-}" != --built ]; then rt staticlib trunk >&2; fi
 
+in_both="plan_map_t replay_day"
 mkdir -p target/examples
-cc -std=c11 -O2 -Wall -Wextra -Iinclude examples/plan_map_t.c target/staticlib/libtrunk.a -o target/examples/plan_map_t
-target/examples/plan_map_t | tee target/examples/from_c
-diff target/examples/from_c examples/plan_map_t.expected
+for example in $in_both; do
+    cc -std=c11 -O2 -Wall -Wextra -Iinclude "examples/$example.c" target/staticlib/libtrunk.a -o "target/examples/$example"
+    "target/examples/$example" | tee target/examples/from_c
+    diff target/examples/from_c "examples/$example.expected"
+done
 echo "C: as expected"
 
 export CARGO_TARGET_DIR="$PWD/target/rust"
 cargo test --quiet --offline --manifest-path rust/Cargo.toml
-cargo run --quiet --offline --manifest-path rust/Cargo.toml --example plan_map_t | tee target/examples/from_rust
-diff target/examples/from_rust examples/plan_map_t.expected
+for example in $in_both; do
+    cargo run --quiet --offline --manifest-path rust/Cargo.toml --example "$example" | tee target/examples/from_rust
+    diff target/examples/from_rust "examples/$example.expected"
+done
 echo "Rust: as expected"
 
 cargo build --quiet --offline --manifest-path rust/Cargo.toml --examples

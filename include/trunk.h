@@ -12,16 +12,16 @@
  * No function keeps anything between calls, allocates, prints or fails in another way than by its reply. Calls from
  * several threads need no lock as long as nobody writes what another call is lent.
  *
- * Formats: maps, orders and sheets are bytes, with 32-bit words in little-endian order, as document 01 describes them.
- * Label space and replies are numbers of the machine.
+ * Formats: maps, orders, sheets and traces are bytes, with 32-bit words in little-endian order, as documents 01 and 02
+ * describe them. Label space, rules, figures and replies are numbers of the machine.
  *
  * A road takes 18 * metres / (5 * km per hour) seconds, to the nearest second, an exact half to the even one, and never
  * below 1 (document 02, P2): 25 m at 36 km per hour take 2, 35 m take 4 and 5 m take 1.
  *
  * The reply is three numbers: number, place, arrival. Number 0 is a success; any other is a refusal, listed below, whose
- * place says where and whose arrival is 0. A refusal changes no byte of a map or of a sheet. Give `reply` room for three
- * numbers (`reply_count` at least 3); further ones stay as they are. With less room the call does nothing and writes
- * nothing at all, so set reply[0] to another value beforehand if the count may be wrong.
+ * place says where and whose arrival is 0. A refusal changes no byte of a map or of a sheet, and no figure. Give `reply`
+ * room for three numbers (`reply_count` at least 3); further ones stay as they are. With less room the call does nothing
+ * and writes nothing at all, so set reply[0] to another value beforehand if the count may be wrong.
  *
  * Stack, measured with the library of this version. In its machine code frames are fixed and nothing recurses, and no
  * path through it reserves a hundred bytes more, the C library's memset aside:
@@ -49,6 +49,18 @@ enum {
     TRUNK_STACK_BYTES = 65536,       /* every other function */
 };
 
+/* A trace's record: two words, the activity and its seconds, 1 to TRUNK_MOST_TRACE_SECONDS. Beside a trace go the words
+ * of the rules and of the driver's figures. */
+enum {
+    TRUNK_TRACE_RECORD_BYTES = 8,
+    TRUNK_MOST_TRACE_SECONDS = 1000000,
+    TRUNK_OTHER_WORK = 0,
+    TRUNK_DRIVING = 1,
+    TRUNK_PAUSE = 2,
+    TRUNK_RULE_WORDS = 4,   /* spell limit, break, shift limit, rest: words 6 to 9 of an order */
+    TRUNK_FIGURE_WORDS = 2, /* spell, shift: words 4 and 5 of an order */
+};
+
 /* What a reply's number says, and what its place is then. */
 enum trunk_number {
     TRUNK_DONE = 0,
@@ -61,8 +73,8 @@ enum trunk_number {
     TRUNK_BROKEN_CHAIN = 7,   /* a road off its chain or on another's: the lowest such road */
     TRUNK_BAD_LETTERING = 8,  /* a name byte outside 0x20 to 0x7E: its offset in the map, the lowest */
     TRUNK_BAD_ORDER = 9,      /* the order is not 40 bytes: its length */
-    TRUNK_BAD_RULES = 10,     /* words 6 to 9 of the order: the first such word */
-    TRUNK_BAD_TRIP = 11,      /* words 0 to 5 of the order: the first such word */
+    TRUNK_BAD_RULES = 10,     /* words 6 to 9 of the order, or the rules: the first such word, 6 to 9 */
+    TRUNK_BAD_TRIP = 11,      /* words 0 to 5 of the order, or the figures: the first such word, 0 to 5 */
     TRUNK_FULL = 12,          /* more labels are needed than fit: the labels that fit */
     TRUNK_NO_ROAD = 13,       /* no legal journey: how many labels there are */
     TRUNK_SHORT_SHEET = 14,   /* the sheet to write is too short: the bytes needed */
@@ -71,7 +83,10 @@ enum trunk_number {
     TRUNK_OVERRUN = 17,       /* a move that breaks a limit: which move, from 1 */
     TRUNK_FALSE_FIGURE = 18,  /* a clock that is not true: which move; the header: one more than the moves */
     TRUNK_STRAY = 19,         /* the moves do not end at the target: the junction reached */
-    TRUNK_UNKNOWN_NAME = 20   /* no such junction: the junction asked */
+    TRUNK_UNKNOWN_NAME = 20,  /* no such junction: the junction asked */
+    TRUNK_TORN_TRACE = 21,    /* the trace's length is not a multiple of 8: its length */
+    TRUNK_ODD_RECORD = 22,    /* a record's activity or seconds out of range: which record, from 1 */
+    TRUNK_PAST_LIMIT = 23     /* driving that takes a figure over its limit: which record, from 1 */
 };
 
 /* Map check. Reads the map. Refuses 1 to 8; success is 0, 0, 0. */
@@ -125,6 +140,21 @@ void trunk_name(const uint8_t *map, size_t map_length,
  * not judging those fields, and 8. Success is 0, 0, 0. */
 void trunk_make_chains(uint8_t *map, size_t map_length,
                        uint64_t *reply, size_t reply_count);
+
+/* Replaying: hours from the tachograph. Reads a trace and the rules, and brings the driver's two figures up to date by
+ * each record. Driving adds its seconds to spell and shift. Neighbouring pauses are one pause: at least as long as the
+ * break it clears spell, at least as long as the rest both. Other work clears nothing and ends a pause, and so does the
+ * trace's end: the pauses of two traces are not joined. `rules` takes TRUNK_RULE_WORDS and `figures` TRUNK_FIGURE_WORDS;
+ * with less room than that the call does nothing, as with a short reply, and words behind them are not read and stay.
+ * Refuses 10 and 11 as the order check does, at place 6 to 9 and 4 or 5; 21; 22 and 23 record by record. A refused trace
+ * leaves the figures as at the start. Success is 0, the number of records, 0; an empty trace is one.
+ *
+ * Ten words `w` that hold an order have both beside each other, and are brought up to date in place by
+ *     trunk_replay(trace, trace_length, w + 6, TRUNK_RULE_WORDS, w + 4, TRUNK_FIGURE_WORDS, reply, 3); */
+void trunk_replay(const uint8_t *trace, size_t trace_length,
+                  const uint32_t *rules, size_t rule_count,
+                  uint32_t *figures, size_t figure_count,
+                  uint64_t *reply, size_t reply_count);
 
 #ifdef __cplusplus
 }

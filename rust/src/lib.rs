@@ -1,8 +1,9 @@
 //! Safe Rust over the trunk lorry planner, a library that is proved in Rattle: from a road map with car parks, a
 //! driver's hours and a trip to the legal route, with breaks and rests, that arrives first.
 //!
-//! Maps, orders and sheets are bytes in the formats of document 01; `include/trunk.h` lists the refusals and what each
-//! call reads and writes. Every call ends, allocates nothing, and answers bad input by a refusal that changes no byte.
+//! Maps, orders and sheets are bytes in the formats of document 01, and traces in that of document 02 (P3);
+//! `include/trunk.h` lists the refusals and what each call reads and writes. Every call ends, allocates nothing, and
+//! answers bad input by a refusal that changes no byte.
 //!
 //! A road takes 18 × metres / (5 × km per hour) seconds, to the nearest second, an exact half to the even one, and never
 //! below 1.
@@ -25,6 +26,16 @@ pub const MOST_MAP_BYTES: usize = 16 + 16 * MOST_JUNCTIONS + 20 * MOST_ROADS + M
 pub const PLAN_STACK_BYTES: usize = 256 * 1024;
 /// The stack to leave for every other call.
 pub const STACK_BYTES: usize = 64 * 1024;
+/// The bytes of a trace's record: two words, the activity and its seconds.
+pub const TRACE_RECORD_BYTES: usize = 8;
+/// The most seconds of a trace's record.
+pub const MOST_TRACE_SECONDS: u32 = 1_000_000;
+/// A trace's activity: other work.
+pub const OTHER_WORK: u32 = 0;
+/// A trace's activity: driving.
+pub const DRIVING: u32 = 1;
+/// A trace's activity: a pause.
+pub const PAUSE: u32 = 2;
 
 /// The library's functions, as `include/trunk.h` declares them. A slice is a pointer and a length.
 mod raw {
@@ -91,10 +102,20 @@ mod raw {
             reply: *mut u64,
             reply_count: usize,
         );
+        pub fn trunk_replay(
+            trace: *const u8,
+            trace_length: usize,
+            rules: *const u32,
+            rule_count: usize,
+            figures: *mut u32,
+            figure_count: usize,
+            reply: *mut u64,
+            reply_count: usize,
+        );
     }
 }
 
-/// Why a call refuses: the refusals of document 01, in the order of their numbers.
+/// Why a call refuses: the refusals of documents 01 and 02, in the order of their numbers.
 #[derive(Clone, Copy, Debug, PartialEq, Eq, Hash)]
 #[repr(u8)]
 pub enum Refusal {
@@ -117,9 +138,9 @@ pub enum Refusal {
     BadLettering,
     /// The order is not 40 bytes. Place: its length.
     BadOrder,
-    /// Words 6 to 9 of the order. Place: the first such word.
+    /// Words 6 to 9 of the order, which are also the [`Rules`] of a replay. Place: the first such word.
     BadRules,
-    /// Words 0 to 5 of the order. Place: the first such word.
+    /// Words 0 to 5 of the order, of which 4 and 5 are also the [`Figures`] of a replay. Place: the first such word.
     BadTrip,
     /// More labels are needed than fit. Place: the labels that fit.
     Full,
@@ -139,10 +160,16 @@ pub enum Refusal {
     Stray,
     /// There is no such junction. Place: the junction asked.
     UnknownName,
+    /// The trace's length is not a multiple of [`TRACE_RECORD_BYTES`]. Place: its length.
+    TornTrace,
+    /// A record's activity or seconds are out of range. Place: which record, from 1.
+    OddRecord,
+    /// Driving that takes a figure over its limit. Place: which record, from 1.
+    PastLimit,
 }
 
 impl Refusal {
-    const ALL: [Refusal; 20] = [
+    const ALL: [Refusal; 23] = [
         Refusal::ShortMap,
         Refusal::StrangeMap,
         Refusal::Oversize,
@@ -163,9 +190,12 @@ impl Refusal {
         Refusal::FalseFigure,
         Refusal::Stray,
         Refusal::UnknownName,
+        Refusal::TornTrace,
+        Refusal::OddRecord,
+        Refusal::PastLimit,
     ];
 
-    /// The refusal's number in document 01.
+    /// The refusal's number in documents 01 and 02.
     pub fn number(self) -> u64 {
         self as u64
     }
@@ -210,6 +240,48 @@ pub struct Timed {
     pub moves: u64,
     /// When they arrive, in seconds.
     pub arrival: u64,
+}
+
+/// How long a driver may be at the wheel, and how long the pauses are that allow more: words 6 to 9 of an order, in
+/// seconds.
+#[derive(Clone, Copy, Debug, PartialEq, Eq, Hash)]
+pub struct Rules {
+    /// The most wheel time from one pause to the next.
+    pub spell_limit: u32,
+    /// How long a break is.
+    pub break_time: u32,
+    /// The most wheel time from one rest to the next.
+    pub shift_limit: u32,
+    /// How long a rest is.
+    pub rest_time: u32,
+}
+
+impl Rules {
+    /// The European rules: Regulation (EC) 561/2006.
+    pub const fn european() -> Rules {
+        Rules {
+            spell_limit: 16_200,
+            break_time: 2_700,
+            shift_limit: 32_400,
+            rest_time: 39_600,
+        }
+    }
+}
+
+/// A driver's two figures: words 4 and 5 of an order, in seconds. The default is a driver who comes from a rest.
+#[derive(Clone, Copy, Debug, Default, PartialEq, Eq, Hash)]
+pub struct Figures {
+    /// Wheel time since the last pause of any kind.
+    pub spell: u32,
+    /// Wheel time since the last rest.
+    pub shift: u32,
+}
+
+/// A trace was replayed.
+#[derive(Clone, Copy, Debug, PartialEq, Eq, Hash)]
+pub struct Replayed {
+    /// How many records the trace has.
+    pub records: u64,
 }
 
 /// What a call told: number, place, arrival. It is kept inside; callers get a `Result`.
@@ -364,6 +436,39 @@ pub fn make_chains(map: &mut [u8]) -> Result<(), Refused> {
         raw::trunk_make_chains(map.as_mut_ptr(), map.len(), reply, count)
     })?;
     Ok(())
+}
+
+/// Replaying: brings a driver's figures up to date from a tachograph's trace. Refusals 10, 11, 21, then 22 and 23 record
+/// by record; a refusal leaves the figures.
+///
+/// A record is two little-endian words: [`OTHER_WORK`], [`DRIVING`] or [`PAUSE`], and its seconds, 1 to
+/// [`MOST_TRACE_SECONDS`]. Driving adds to both figures. Neighbouring pauses are one pause; at least as long as the break
+/// it clears spell, at least as long as the rest both. Other work clears nothing and ends a pause, and so does the
+/// trace's end: the pauses of two traces are not joined.
+pub fn replay(trace: &[u8], rules: Rules, figures: &mut Figures) -> Result<Replayed, Refused> {
+    let words = [
+        rules.spell_limit,
+        rules.break_time,
+        rules.shift_limit,
+        rules.rest_time,
+    ];
+    let mut lent = [figures.spell, figures.shift];
+    let answer = replied(|reply, count| unsafe {
+        raw::trunk_replay(
+            trace.as_ptr(),
+            trace.len(),
+            words.as_ptr(),
+            words.len(),
+            lent.as_mut_ptr(),
+            lent.len(),
+            reply,
+            count,
+        )
+    });
+    [figures.spell, figures.shift] = lent;
+    Ok(Replayed {
+        records: answer?.place,
+    })
 }
 
 #[cfg(test)]

@@ -1,4 +1,4 @@
-//! Document 01's trial trips, a refusal of each call and the largest map, through the library.
+//! Document 01's trial trips, a refusal of each call, the largest map and replayed traces, through the library.
 use super::*;
 
 const NAMES: &[u8] = b"HubLayEnd";
@@ -265,6 +265,11 @@ fn the_header_has_the_same_figures() {
         ("MOST_NAME_BYTES", MOST_NAME_BYTES),
         ("PLAN_STACK_BYTES", PLAN_STACK_BYTES),
         ("STACK_BYTES", STACK_BYTES),
+        ("TRACE_RECORD_BYTES", TRACE_RECORD_BYTES),
+        ("MOST_TRACE_SECONDS", MOST_TRACE_SECONDS as usize),
+        ("OTHER_WORK", OTHER_WORK as usize),
+        ("DRIVING", DRIVING as usize),
+        ("PAUSE", PAUSE as usize),
     ] {
         assert!(
             header.contains(&format!(" TRUNK_{name} = {figure},")),
@@ -274,7 +279,7 @@ fn the_header_has_the_same_figures() {
 }
 
 #[test]
-fn numbers_are_document_01s() {
+fn numbers_are_the_documents() {
     for (i, refusal) in Refusal::ALL.into_iter().enumerate() {
         assert_eq!(refusal.number(), i as u64 + 1);
     }
@@ -360,4 +365,158 @@ fn a_name_needs_room_for_its_place() {
         )
     };
     assert_eq!((reply, part), ([20, 4, 0, 9], [0, 0, 9]));
+}
+
+/// Both figures at their European limits.
+const TIRED: Figures = Figures {
+    spell: 16_200,
+    shift: 32_400,
+};
+
+fn trace_of(records: &[(u32, u32)]) -> Vec<u8> {
+    let words = |&(activity, seconds): &(u32, u32)| [activity, seconds];
+    bytes_of(&records.iter().flat_map(words).collect::<Vec<u32>>())
+}
+
+/// What replaying answers, and the figures afterwards.
+fn replayed(trace: &[u8], rules: Rules, before: Figures) -> (Result<u64, Refused>, Figures) {
+    let mut figures = before;
+    let answer = replay(trace, rules, &mut figures);
+    (answer.map(|replayed| replayed.records), figures)
+}
+
+#[test]
+fn a_day_is_replayed() {
+    let mut day = vec![
+        (OTHER_WORK, 1_800),
+        (DRIVING, 16_200),
+        (PAUSE, 1_500),
+        (PAUSE, 1_200),
+        (DRIVING, 9_000),
+    ];
+    let after = |spell, shift| Figures { spell, shift };
+    let fresh = Figures::default();
+    let european = |day: &[(u32, u32)]| replayed(&trace_of(day), Rules::european(), fresh);
+    assert_eq!(european(&day), (Ok(5), after(9_000, 25_200)));
+    day.push((PAUSE, 39_599));
+    assert_eq!(european(&day), (Ok(6), after(0, 25_200)));
+    day.push((PAUSE, 1));
+    assert_eq!(european(&day), (Ok(7), after(0, 0)));
+    assert_eq!(
+        replayed(&[], Rules::european(), TIRED),
+        (Ok(0), TIRED),
+        "an empty trace"
+    );
+}
+
+#[test]
+fn other_work_ends_a_pause() {
+    let apart = trace_of(&[(PAUSE, 2_699), (OTHER_WORK, 1), (PAUSE, 2_699)]);
+    assert_eq!(replayed(&apart, Rules::european(), TIRED), (Ok(3), TIRED));
+}
+
+/// 4,294,967,296 seconds of pause, which 32 bits would take for none.
+#[test]
+fn a_pause_may_be_longer_than_a_word() {
+    let mut pauses = vec![(PAUSE, 1_000_000); 4_294];
+    pauses.push((PAUSE, 967_296));
+    assert_eq!(
+        replayed(&trace_of(&pauses), Rules::european(), TIRED),
+        (Ok(4_295), Figures::default())
+    );
+}
+
+#[test]
+fn a_refused_trace_leaves_the_figures() {
+    let rest_then = |record| trace_of(&[(PAUSE, 39_600), record]);
+    let cases = [
+        (rest_then((DRIVING, 16_201)), Refusal::PastLimit, 2),
+        (rest_then((DRIVING, 1_000_001)), Refusal::OddRecord, 2),
+        (rest_then((PAUSE, 0)), Refusal::OddRecord, 2),
+        (rest_then((257, 1)), Refusal::OddRecord, 2),
+        (rest_then((PAUSE, 1))[..15].to_vec(), Refusal::TornTrace, 15),
+    ];
+    for (trace, refusal, place) in cases {
+        assert_eq!(
+            replayed(&trace, Rules::european(), TIRED),
+            (refused(refusal, place), TIRED)
+        );
+    }
+}
+
+/// Judged as an order's words, before the trace.
+#[test]
+fn rules_and_figures_come_first() {
+    let no_rest = Rules {
+        rest_time: 0,
+        ..Rules::european()
+    };
+    let spell_above_shift = Figures { spell: 2, shift: 1 };
+    assert_eq!(
+        replayed(&[0], no_rest, spell_above_shift),
+        (refused(Refusal::BadRules, 9), spell_above_shift)
+    );
+    assert_eq!(
+        replayed(&[0], Rules::european(), spell_above_shift),
+        (refused(Refusal::BadTrip, 5), spell_above_shift)
+    );
+    let above_its_limit = Figures {
+        spell: 16_201,
+        shift: 16_201,
+    };
+    assert_eq!(
+        replayed(&[0], Rules::european(), above_its_limit),
+        (refused(Refusal::BadTrip, 4), above_its_limit)
+    );
+}
+
+/// An order's words are replayed on in place; with too little room for any of them nothing is written.
+#[test]
+fn an_order_is_brought_up_to_date_in_place() {
+    let trace = trace_of(&[(DRIVING, 9)]);
+    let before = [1, 3, 0, 100_000, 5, 7, 16_200, 2_700, 32_400, 39_600];
+    let replayed = |rule_count: usize, figure_count: usize, reply_count: usize| {
+        let (mut order, mut reply) = (before, [9; 4]);
+        let (trip, rules) = order.split_at_mut(6);
+        unsafe {
+            raw::trunk_replay(
+                trace.as_ptr(),
+                trace.len(),
+                rules.as_ptr(),
+                rule_count,
+                trip[4..].as_mut_ptr(),
+                figure_count,
+                reply.as_mut_ptr(),
+                reply_count,
+            )
+        };
+        (order, reply)
+    };
+    let after = [1, 3, 0, 100_000, 14, 16, 16_200, 2_700, 32_400, 39_600];
+    assert_eq!(replayed(4, 2, 3), (after, [0, 1, 0, 9]));
+    assert_eq!(replayed(4, 2, 4), (after, [0, 1, 0, 9]));
+    for (rules, figures, reply) in [(3, 2, 3), (4, 1, 3), (4, 2, 2), (0, 0, 0)] {
+        assert_eq!(replayed(rules, figures, reply), (before, [9; 4]));
+    }
+}
+
+/// Words behind the rules and the figures are not read and stay.
+#[test]
+fn longer_rules_and_figures_keep_their_rest() {
+    let trace = trace_of(&[(DRIVING, 9)]);
+    let rules = [16_200, 2_700, 32_400, 39_600, 0];
+    let (mut figures, mut reply) = ([5, 7, u32::MAX], [9; 3]);
+    unsafe {
+        raw::trunk_replay(
+            trace.as_ptr(),
+            trace.len(),
+            rules.as_ptr(),
+            rules.len(),
+            figures.as_mut_ptr(),
+            figures.len(),
+            reply.as_mut_ptr(),
+            reply.len(),
+        )
+    };
+    assert_eq!((figures, reply), ([14, 16, u32::MAX], [0, 1, 0]));
 }

@@ -7,23 +7,27 @@ use native.Mathlib.Omega.{arith}
 use borrow.Author.Tests.{ne-eqb}
 use lib.Dec.{eqb}
 use lib.ListN.{length, getD, set, take, drop, length-set}
-use lib.Seq.{getD-set-same, getD-set-other}
+use lib.Seq.{getD-set-same, getD-set-other, set-getD}
 use Rattle.replies.specs.declared.Check.{Check}
 use Rattle.replies.specs.declared.Planning.{Planning}
 use Rattle.replies.specs.declared.Refusal.{Refusal}
+use Rattle.replies.specs.declared.Replaying.{Replaying}
 use Rattle.replies.specs.declared.Reply.{Reply}
 use Rattle.replies.specs.declared.Timing.{Timing}
-use Rattle.replies.specs.Told.{succeeded, toldCheck, toldPlan, toldRefusal, toldTiming}
+use Rattle.replies.specs.Told.{succeeded, toldCheck, toldPlan, toldRefusal, toldReplaying, toldTiming}
 use Rattle.replies.specs.Pick.{pick}
 use Rattle.replies.proofs.First.{refusal-number}
 use Rattle.roadmap.specs.Format.{nameLength}
 use Rattle.mapedit.specs.Name.{nameReply, nameAt, namePart}
 use Rattle.mapedit.specs.Chaining.{ChainMaking}
 use Rattle.mapedit.proofs.Named.{length-named}
+use Rattle.driving.specs.declared.Figures.{Figures}
+use Rattle.replay.specs.Replay.{pickFigures, upToDate, replayReply, figuresAfter, Replayed}
+use Rattle.replay.specs.Trace.{recordsOf}
 use Rattle.retiming.specs.Retiming.{Retimed}
 use Rattle.planner.specs.Planned.{Planned}
-use Rattle.trunk.specs.Written.{replyPut, partPut}
-use Rattle.trunk.specs.Calls.{JudgingCall, PlanCall, RetimeCall, NameCall, ChainsCall, namePut}
+use Rattle.trunk.specs.Written.{replyPut, partPut, rulesIn, figuresIn, figuresPut}
+use Rattle.trunk.specs.Calls.{JudgingCall, PlanCall, RetimeCall, NameCall, ChainsCall, ReplayCall, namePut}
 
 -- nothing is written
 module _ {reply : List ℕ} (short : length reply < 3) where
@@ -43,9 +47,21 @@ module _ {reply : List ℕ} (short : length reply < 3) where
   pub chains-short : (map : List ℕ) → ChainsCall map map reply reply
   chains-short map = record { short = λ _. (refl, refl); told = λ room. absurd (omega arith) }
 
+  pub replay-short : (trace rules figures : List ℕ) → ReplayCall trace rules figures figures reply reply
+  replay-short trace rules figures =
+      record { short = λ _. (refl, refl); short-rules = λ _. (refl, refl); short-figures = λ _. (refl, refl); told = λ room _ _. absurd (omega arith) }
+
 pub name-short-part : {part : List ℕ} → length part < 2 → (map : List ℕ) (junction : ℕ) (reply : List ℕ) → NameCall map junction reply reply part part
 name-short-part short map junction reply =
     record { short = λ _. (refl, refl); short-part = λ _. (refl, refl); told = λ _ room. absurd (omega arith) }
+
+pub replay-short-rules : {rules : List ℕ} → length rules < 4 → (trace figures reply : List ℕ) → ReplayCall trace rules figures figures reply reply
+replay-short-rules short trace figures reply =
+    record { short = λ _. (refl, refl); short-rules = λ _. (refl, refl); short-figures = λ _. (refl, refl); told = λ _ room _. absurd (omega arith) }
+
+pub replay-short-figures : {figures : List ℕ} → length figures < 2 → (trace rules reply : List ℕ) → ReplayCall trace rules figures figures reply reply
+replay-short-figures short trace rules reply =
+    record { short = λ _. (refl, refl); short-rules = λ _. (refl, refl); short-figures = λ _. (refl, refl); told = λ _ _ room. absurd (omega arith) }
 
 -- the reply is written
 module _ {reply reply′ : List ℕ} {told : Reply} (room : 3 ≤ length reply) (written : reply′ ≡ replyPut reply told) where
@@ -74,6 +90,16 @@ module _ {reply reply′ : List ℕ} {told : Reply} (room : 3 ≤ length reply) 
   pub chains-told : {map map′ : List ℕ} {answer : Check} → told ≡ toldCheck answer → ChainMaking map map′ answer → ChainsCall map map′ reply reply′
   chains-told {answer = answer} is made =
       record { short = λ short. absurd (omega arith); told = λ _. (answer, made, written ∙ ap (replyPut reply) is) }
+
+  pub replay-told : {trace rules figures figures′ : List ℕ} {answer : Replaying} {after : Figures} → 4 ≤ length rules → 2 ≤ length figures → told ≡ toldReplaying answer
+      → Replayed trace (rulesIn rules) (figuresIn figures) after answer → figures′ ≡ figuresPut figures after → ReplayCall trace rules figures figures′ reply reply′
+  replay-told {answer = answer} {after = after} enough-rules enough-figures is replayed put =
+      record {
+        short = λ short. absurd (omega arith);
+        short-rules = λ short. absurd (omega arith);
+        short-figures = λ short. absurd (omega arith);
+        told = λ _ _ _. (answer, after, replayed, put, written ∙ ap (replyPut reply) is);
+      }
 
 -- the place and the length of a name
 module _ (map : List ℕ) (junction : ℕ) (part : List ℕ) where
@@ -104,3 +130,16 @@ pub part-spells : (map : List ℕ) (junction : ℕ) (part : List ℕ) → 2 ≤ 
 unfolding namePart
 part-spells map junction part room =
     spells-so (eqb (nameReply map junction .number) 0) map part (nameAt map junction) (nameLength map junction) room
+
+-- a refused trace leaves every word of the lent figures
+pub replay-leaves : (trace rules figures : List ℕ) {figures′ : List ℕ} {answer : Replaying} {after : Figures} → Replayed trace (rulesIn rules) (figuresIn figures) after answer
+    → figures′ ≡ figuresPut figures after → ¬ (toldReplaying answer .number ≡ 0) → figures′ ≡ figures
+unfolding figuresAfter
+replay-leaves trace rules figures replayed put refused =
+    put
+    ∙ ap (figuresPut figures)
+    (replayed .figures
+    ∙ ap (λ (b : Bool). pickFigures b (upToDate (rulesIn rules) (recordsOf trace) (figuresIn figures)) (figuresIn figures))
+    (ne-eqb (replayReply trace (rulesIn rules) (figuresIn figures) .number) 0 (λ e. refused (ap (λ (r : Reply). r .number) (replayed .reply) ∙ e))))
+    ∙ ap (λ (words : List ℕ). set words 1 (getD figures 1 0)) (set-getD figures 0 0)
+    ∙ set-getD figures 1 0

@@ -7,19 +7,22 @@ use lib.Dec.{eqb}
 use lib.ListN.{length}
 use Rattle.replies.specs.declared.Check.{Check}
 use Rattle.replies.specs.declared.Planning.{Planning}
+use Rattle.replies.specs.declared.Replaying.{Replaying}
 use Rattle.replies.specs.declared.Reply.{Reply}
 use Rattle.replies.specs.declared.Timing.{Timing}
 use Rattle.replies.specs.First.{firstOf}
-use Rattle.replies.specs.Told.{succeeded, toldCheck, toldPlan, toldTiming}
+use Rattle.replies.specs.Told.{succeeded, toldCheck, toldPlan, toldReplaying, toldTiming}
 use Rattle.replies.specs.Pick.{pick}
 use Rattle.roadmap.specs.Format.{nameLength}
 use Rattle.mapcheck.specs.MapCheck.{mapTests}
+use Rattle.driving.specs.declared.Figures.{Figures}
 use Rattle.driving.specs.Order.{orderTests}
+use Rattle.replay.specs.Replay.{Replayed}
 use Rattle.mapedit.specs.Name.{nameReply, nameAt}
 use Rattle.mapedit.specs.Chaining.{ChainMaking}
 use Rattle.retiming.specs.Retiming.{auditReply, Retimed}
 use Rattle.planner.specs.Planned.{Planned}
-use Rattle.trunk.specs.Written.{replyPut, partPut}
+use Rattle.trunk.specs.Written.{replyPut, partPut, rulesIn, figuresIn, figuresPut}
 
 -- a call that only judges: it writes nothing but what it tells
 pub record JudgingCall (tells : Reply) (reply reply′ : List ℕ) : Type 0 where
@@ -64,3 +67,12 @@ pub record ChainsCall (map map′ reply reply′ : List ℕ) : Type 0 where
   pub short : length reply < 3 → (map′ ≡ map) × (reply′ ≡ reply)
   pub told : 3 ≤ length reply
       → (answer : Check) × ChainMaking map map′ answer × (reply′ ≡ replyPut reply (toldCheck answer))
+
+-- lent rules of fewer than four words, or figures of fewer than two, are as a reply with no room for three
+pub record ReplayCall (trace rules figures figures′ reply reply′ : List ℕ) : Type 0 where
+  pub short : length reply < 3 → (figures′ ≡ figures) × (reply′ ≡ reply)
+  pub short-rules : length rules < 4 → (figures′ ≡ figures) × (reply′ ≡ reply)
+  pub short-figures : length figures < 2 → (figures′ ≡ figures) × (reply′ ≡ reply)
+  pub told : 3 ≤ length reply → 4 ≤ length rules → 2 ≤ length figures
+      → (answer : Replaying) × (after : Figures) × Replayed trace (rulesIn rules) (figuresIn figures) after answer
+      × (figures′ ≡ figuresPut figures after) × (reply′ ≡ replyPut reply (toldReplaying answer))

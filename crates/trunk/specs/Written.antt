@@ -1,8 +1,10 @@
--- Where a caller of the library finds the reply, and the place of a name. Assumes nothing.
+-- Where a caller of the library finds the reply, the place of a name, rules and figures. Assumes nothing.
 use mathlib.Core.List.{List}
 use Prim.Native.Nat.{ℕ}
-use lib.ListN.{set}
+use lib.ListN.{getD, set}
 use Rattle.replies.specs.declared.Reply.{Reply}
+use Rattle.driving.specs.declared.Figures.{Figures}
+use Rattle.driving.specs.declared.Rules.{Rules}
 
 -- number, place, arrival; the numbers after them stay
 abbrev pub replyPut : List ℕ → Reply → List ℕ
@@ -11,3 +13,20 @@ replyPut lent reply = set (set (set lent 0 (reply .number)) 1 (reply .place)) 2 
 -- a part of the map: where it starts, how long it is; the numbers after them stay
 abbrev pub partPut : List ℕ → ℕ → ℕ → List ℕ
 partPut lent from length = set (set lent 0 from) 1 length
+
+-- rules, as words 6 to 9 of an order: spell limit, break, shift limit, rest; the words after them are not read
+abbrev pub rulesIn : List ℕ → Rules
+rulesIn words =
+    record {
+      «spell_limit» = record { 0 = getD words 0 0 };
+      «break_time» = record { 0 = getD words 1 0 };
+      «shift_limit» = record { 0 = getD words 2 0 };
+      «rest_time» = record { 0 = getD words 3 0 };
+    }
+
+-- figures, as words 4 and 5 of an order: spell, shift; the words after them stay
+abbrev pub figuresIn : List ℕ → Figures
+figuresIn words = record { spell = record { 0 = getD words 0 0 }; shift = record { 0 = getD words 1 0 } }
+
+abbrev pub figuresPut : List ℕ → Figures → List ℕ
+figuresPut words f = set (set words 0 (f .spell .0)) 1 (f .shift .0)

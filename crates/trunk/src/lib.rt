@@ -6,15 +6,24 @@ ghost use Prim.Native.Nat.{_≤_};
 ghost use lib.ListN.{length};
 ghost use Rattle.replies.specs.Told.{toldName};
 ghost use Rattle.mapedit.specs.Name.{nameReply};
-ghost use Rattle.trunk.specs.Written.{replyPut};
-ghost use Rattle.trunk.specs.Calls.{MapCheckCall, OrderCheckCall, PlanCall, RetimeCall, AuditCall, NameCall, ChainsCall, namePut};
+ghost use Rattle.trunk.specs.Written.{replyPut, rulesIn, figuresIn, figuresPut};
+ghost use Rattle.trunk.specs.Calls.{MapCheckCall, OrderCheckCall, PlanCall, RetimeCall, AuditCall, NameCall, ChainsCall, ReplayCall, namePut};
+use driving::Figures;
+use driving::Rules;
 use replies::NameReply;
 use replies::Reply;
+use seconds::Clock;
+use seconds::Wheel;
 
 // What a reply, and the place of a name, take of a lent run.
 const REPLY_NUMBERS: usize = 3;
 
 const PART_NUMBERS: usize = 2;
+
+// What rules and figures take of lent runs: words 6 to 9, and 4 and 5, of an order.
+const RULE_WORDS: usize = 4;
+
+const FIGURE_WORDS: usize = 2;
 
 fn put_reply(lent: &mut [u64], reply: Reply)
     requires { ⌜ 3 ≤ length (now lent) ⌝ }
@@ -141,5 +150,58 @@ pub extern "C" fn trunk_make_chains(map: &mut [u8], reply: &mut [u64])
         return;
     }
     let told = mapedit::make_chains(map).reply();
+    put_reply(reply, told);
+}
+
+fn read_rules(words: &[u32]) -> Rules
+    requires { ⌜ 4 ≤ length (now words) ⌝ }
+    ensures { λ r. ⌜ r ≡ rulesIn (now (words .entry)) ⌝ }
+{
+    Rules {
+        spell_limit: Wheel(words[0]),
+        break_time: Clock(words[1]),
+        shift_limit: Wheel(words[2]),
+        rest_time: Clock(words[3]),
+    }
+}
+
+fn read_figures(words: &[u32]) -> Figures
+    requires { ⌜ 2 ≤ length (now words) ⌝ }
+    ensures { λ r. ⌜ r ≡ figuresIn (now (words .entry)) ⌝ }
+{
+    Figures {
+        spell: Wheel(words[0]),
+        shift: Wheel(words[1]),
+    }
+}
+
+fn put_figures(words: &mut [u32], figures: Figures)
+    requires { ⌜ 2 ≤ length (now words) ⌝ }
+    ensures { λ _. ⌜ now (words .exit) ≡ figuresPut (now (words .entry)) figures ⌝ }
+{
+    words[0] = figures.spell.0;
+    words[1] = figures.shift.0;
+}
+
+// Replaying a trace.
+#[no_mangle]
+pub extern "C" fn trunk_replay(trace: &[u8], rules: &[u32], figures: &mut [u32], reply: &mut [u64])
+    ensures { λ _. ⌜ ReplayCall (now (trace .entry)) (now (rules .entry)) (now (figures .entry)) (now (figures .exit)) (now (reply .entry)) (now (reply .exit)) ⌝ }
+{
+    if reply.len() < REPLY_NUMBERS {
+        return;
+    }
+    if rules.len() < RULE_WORDS {
+        return;
+    }
+    if figures.len() < FIGURE_WORDS {
+        return;
+    }
+    let start = read_figures(figures);
+    let outcome = replay::replay_from(trace, read_rules(rules), start);
+    let after = outcome.figures;
+    let answer = outcome.answer;
+    put_figures(figures, after);
+    let told = answer.reply();
     put_reply(reply, told);
 }
