@@ -1,6 +1,6 @@
 /* Measures the stack that each call of the library takes, and fails where it is more than include/trunk.h says: the
  * bytes below its caller that a call changes. Frames are fixed and nothing recurses, so that a small map and the largest
- * one, planned, retimed and refused, tell all. After `rt staticlib trunk`:
+ * one, planned, retimed and refused, and a trace replayed and refused tell all. After `rt staticlib trunk`:
  *     cc -O2 -pthread -Iinclude tests/stack_use.c target/staticlib/libtrunk.a -o target/stack_use && target/stack_use */
 #define _XOPEN_SOURCE 600 /* pthread_attr_setstack */
 #include <pthread.h>
@@ -17,6 +17,15 @@ static uint32_t words[8 * LABELS];
 static uint64_t reply[3], part[2];
 static int plans; /* sheets planned, so that calls which only refuse do not pass for a measurement */
 
+/* A day that uses up the hours of a driver who comes from a rest: replayed again it is refused, and leaves the figures. */
+enum { DAY_RECORDS = 4, SPELL_LIMIT = 16200, SHIFT_LIMIT = 32400 };
+static const uint32_t rules[TRUNK_RULE_WORDS] = {SPELL_LIMIT, 2700, SHIFT_LIMIT, 39600};
+static const uint32_t day[2 * DAY_RECORDS] = {
+    TRUNK_DRIVING, SPELL_LIMIT, TRUNK_PAUSE, 1500, TRUNK_PAUSE, 1200, TRUNK_DRIVING, SHIFT_LIMIT - SPELL_LIMIT,
+};
+static uint8_t trace[TRUNK_TRACE_RECORD_BYTES * DAY_RECORDS];
+static uint32_t figures[TRUNK_FIGURE_WORDS];
+
 static void check_map(void) { trunk_check_map(map, map_length, reply, 3); }
 static void check_order(void) { trunk_check_order(order, sizeof order, 3, reply, 3); }
 static void plan(void) { trunk_plan(map, map_length, order, sizeof order, words, 8 * LABELS, sheet, SHEET_BYTES, reply, 3); }
@@ -26,6 +35,9 @@ static void retime(void) {
 static void audit(void) { trunk_audit(map, map_length, order, sizeof order, sheet, sheet_length, reply, 3); }
 static void name(void) { trunk_name(map, map_length, 1, reply, 3, part, 2); }
 static void make_chains(void) { trunk_make_chains(map, map_length, reply, 3); }
+static void replay(void) {
+    trunk_replay(trace, sizeof trace, rules, TRUNK_RULE_WORDS, figures, TRUNK_FIGURE_WORDS, reply, 3);
+}
 
 /* Chains are made before the map is checked, and a plan before it is retimed and audited. */
 static struct {
@@ -40,6 +52,7 @@ static struct {
     {"trunk_retime", retime, TRUNK_STACK_BYTES, 0},
     {"trunk_audit", audit, TRUNK_STACK_BYTES, 0},
     {"trunk_name", name, TRUNK_STACK_BYTES, 0},
+    {"trunk_replay", replay, TRUNK_STACK_BYTES, 0},
 };
 enum { CALLS = sizeof calls / sizeof *calls };
 
@@ -106,6 +119,7 @@ static void measure(void) {
 
 int main(void) {
     stack = aligned_alloc(4096, STACK_BYTES);
+    put_words(trace, day, 2 * DAY_RECORDS);
     for (uint32_t target = 0; target <= 3; target++) {
         put_words(order, (uint32_t[]){2, target, 0, 100000, 0, 0, 16200, 2700, 32400, 39600}, 10);
         make_map(3, 3, 9);
@@ -113,7 +127,7 @@ int main(void) {
         make_map(TRUNK_MOST_JUNCTIONS, TRUNK_MOST_ROADS, TRUNK_MOST_NAME_BYTES);
         measure();
     }
-    int failed = plans != 6;
+    int failed = plans != 6 || figures[0] != SPELL_LIMIT || figures[1] != SHIFT_LIMIT;
     for (int c = 0; c < CALLS; c++) {
         printf("%-17s %7zu bytes of stack\n", calls[c].name, calls[c].bytes);
         failed |= calls[c].bytes > calls[c].enough;

@@ -2,7 +2,7 @@
 
 use other::operations::{NameAnswer, Operations};
 use other::reply::Reply;
-use trunk::{Refused, Timed};
+use trunk::{Figures, Refused, Rules, Timed};
 
 pub const LIBRARY: Operations = Operations {
     check_map: |map| told(trunk::check_map(map), |()| (0, 0)),
@@ -16,6 +16,7 @@ pub const LIBRARY: Operations = Operations {
     audit: |map, order, sheet| told(trunk::audit(map, order, sheet), timed),
     name: named,
     make_chains: |map| told(trunk::make_chains(map), |()| (0, 0)),
+    replay: replayed,
 };
 
 /// Place and arrival of a success, or the refusal.
@@ -42,4 +43,20 @@ fn named(map: &[u8], junction: u32) -> NameAnswer {
     };
     let reply = told(part, |part| (part.len() as u64, 0));
     (reply, offset, length)
+}
+
+/// The figures are handed back whatever the reply, so that a refusal which changes them shows.
+fn replayed(trace: &[u8], rules: [u32; 4], figures: &mut [u32; 2]) -> Reply {
+    let [spell_limit, break_time, shift_limit, rest_time] = rules;
+    let rules = Rules {
+        spell_limit,
+        break_time,
+        shift_limit,
+        rest_time,
+    };
+    let [spell, shift] = *figures;
+    let mut lent = Figures { spell, shift };
+    let answer = trunk::replay(trace, rules, &mut lent);
+    *figures = [lent.spell, lent.shift];
+    told(answer, |replayed| (replayed.records, 0))
 }

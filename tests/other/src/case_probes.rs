@@ -4,6 +4,7 @@ use std::collections::BTreeSet;
 
 use crate::make::orders::MOST_STATES;
 use crate::make::random::Random;
+use crate::make::traces::Replay;
 use crate::make::{Case, Run};
 use crate::operations::Operations;
 use crate::planning::WORDS_OF_A_LABEL;
@@ -54,6 +55,7 @@ pub fn probes(trusted: &Operations, case: &Case, random: &mut Random) -> Vec<Pro
     for run in case.runs() {
         probes.extend(plan_probes(trusted, run, random));
     }
+    probes.extend(case.replays.iter().map(Replay::probe));
     probes
 }
 

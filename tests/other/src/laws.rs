@@ -1,24 +1,30 @@
-//! Laws between replies of one implementation: label space is free, and demand 3.
+//! Laws between replies of one implementation: label space is free, demand 3, and a trace may be
+//! replayed in two parts.
 
 use crate::case_probes::{ample_plan, label_count, marked_words, AMPLE_WORDS};
 use crate::make::random::Random;
+use crate::make::traces::Replay;
 use crate::make::{Case, Run};
 use crate::operations::Operations;
 use crate::planning::WORDS_OF_A_LABEL;
 use crate::probe::{answer, Answer, Probe};
+use crate::replay::{TraceRecord, PAUSE, TRACE_RECORD_BYTES};
 use crate::reply::{Reply, FULL, SHORT_SHEET};
 use crate::sheet::sheet_bytes;
-use crate::words::word;
+use crate::words::{bytes_of, word};
 
 /// The first law that a case breaks, in words.
 pub fn obeyed(operations: &Operations, case: &Case, random: &mut Random) -> Result<(), String> {
     for run in case.runs() {
         label_space_is_free(operations, run, random)?;
     }
-    match &case.easier {
-        Some(easier) => nothing_worse(operations, &case.run, easier, random),
-        None => Ok(()),
+    if let Some(easier) = &case.easier {
+        nothing_worse(operations, &case.run, easier, random)?;
     }
+    for replay in &case.replays {
+        two_parts_are_one(operations, replay, random)?;
+    }
+    Ok(())
 }
 
 /// Runs that differ only in label space, none of them full, have equal replies and sheets.
@@ -130,6 +136,68 @@ fn full_by_its_own_count(
         }
     }
     Ok(())
+}
+
+/// A trace that is not torn, cut where no pause goes on: its second part, replayed from the figures
+/// that the first one leaves, does what the whole trace does, and its records count on.
+fn two_parts_are_one(
+    operations: &Operations,
+    replay: &Replay,
+    random: &mut Random,
+) -> Result<(), String> {
+    if !replay.trace.len().is_multiple_of(TRACE_RECORD_BYTES) {
+        return Ok(());
+    }
+    let cut = random.pick(&cuts_beside_pauses(&TraceRecord::read_all(&replay.trace)));
+    let (one, next) = replay.trace.split_at(TRACE_RECORD_BYTES * cut);
+    let replayed = |trace: &[u8], figures| {
+        let probe = Probe::Replay {
+            trace: trace.to_vec(),
+            rules: replay.rules,
+            figures,
+        };
+        answer(operations, &probe)
+    };
+    let whole = replayed(&replay.trace, replay.figures);
+    let first = replayed(one, replay.figures);
+    let expected = match first.reply.number {
+        0 => {
+            let figures = [0, 4].map(|offset| word(&first.written, offset) as u32);
+            counted_on(replay, &first, replayed(next, figures))
+        }
+        _ => first,
+    };
+    ensure(whole == expected, "two parts of a trace are not the whole").map_err(|law| {
+        format!(
+            "{law}, cut behind record {cut}\n{}",
+            replay.probe().describe()
+        )
+    })
+}
+
+/// Between which records a trace can be cut and no pause with it.
+fn cuts_beside_pauses(records: &[TraceRecord]) -> Vec<usize> {
+    let is_pause = |index: usize| records.get(index).is_some_and(|r| r.activity == PAUSE);
+    (0..=records.len())
+        .filter(|cut| *cut == 0 || !is_pause(cut - 1) || !is_pause(*cut))
+        .collect()
+}
+
+/// What the second part leaves, as the whole trace must: a refusal leaves the figures of the start.
+fn counted_on(replay: &Replay, first: &Answer, second: Answer) -> Answer {
+    let reply = Reply {
+        place: first.reply.place + second.reply.place,
+        ..second.reply
+    };
+    let written = match reply.number {
+        0 => second.written,
+        _ => bytes_of(&replay.figures.map(u64::from)),
+    };
+    Answer {
+        reply,
+        written,
+        ..second
+    }
 }
 
 fn ensure(holds: bool, complaint: &str) -> Result<(), String> {

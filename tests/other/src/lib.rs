@@ -15,6 +15,7 @@ pub mod operations;
 pub mod order;
 pub mod planning;
 pub mod probe;
+pub mod replay;
 pub mod reply;
 pub mod report;
 pub mod retiming;

@@ -2,6 +2,7 @@
 //! library's C functions need only thin functions over slices and one `Operations` of them.
 
 use crate::planning::{plan, Document};
+use crate::replay::replay;
 use crate::reply::Reply;
 use crate::{chains, mapcheck, names, order, retiming};
 
@@ -14,6 +15,9 @@ pub type PlanFunction = fn(&[u8], &[u8], &mut [u32], &mut [u8]) -> Reply;
 /// Takes map, order, sheet and the other sheet.
 pub type RetimeFunction = fn(&[u8], &[u8], &[u8], &mut [u8]) -> Reply;
 
+/// Takes trace, rules (words 6 to 9 of an order) and figures (words 4 and 5).
+pub type ReplayFunction = fn(&[u8], [u32; 4], &mut [u32; 2]) -> Reply;
+
 #[derive(Clone, Copy)]
 pub struct Operations {
     pub check_map: fn(map: &[u8]) -> Reply,
@@ -23,9 +27,10 @@ pub struct Operations {
     pub audit: fn(map: &[u8], order: &[u8], sheet: &[u8]) -> Reply,
     pub name: fn(map: &[u8], junction: u32) -> NameAnswer,
     pub make_chains: fn(map: &mut [u8]) -> Reply,
+    pub replay: ReplayFunction,
 }
 
-/// Document 01's operations, as written here.
+/// The documents' operations, as written here.
 pub const DOCUMENT: Operations = Operations {
     check_map: mapcheck::check_map,
     check_order: order::check_order,
@@ -34,4 +39,5 @@ pub const DOCUMENT: Operations = Operations {
     audit: retiming::audit,
     name: names::name,
     make_chains: chains::make_chains,
+    replay: replay::<Document>,
 };

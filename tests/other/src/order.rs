@@ -42,6 +42,24 @@ impl Order {
         }
     }
 
+    /// An order with these words 6 to 9, and 4 and 5. The others are 0, for want of a trip.
+    pub fn of_hours(rules: [u64; 4], figures: [u64; 2]) -> Order {
+        let [spell_limit, break_time, shift_limit, rest_time] = rules;
+        let [spell, shift] = figures;
+        Order {
+            source: 0,
+            target: 0,
+            departure: 0,
+            latest: 0,
+            spell,
+            shift,
+            spell_limit,
+            break_time,
+            shift_limit,
+            rest_time,
+        }
+    }
+
     pub fn words(&self) -> [u64; 10] {
         [
             self.source,
@@ -73,13 +91,20 @@ impl Order {
         ]
     }
 
-    /// Each rule on words 0 to 5, likewise. A starting figure above its limit is charged itself.
-    pub fn trip(&self, junctions: u64) -> [(u64, bool); 7] {
-        [
+    /// Each rule on words 0 to 5, likewise.
+    pub fn trip(&self, junctions: u64) -> Vec<(u64, bool)> {
+        let ends = [
             (0, (1..=junctions).contains(&self.source)),
             (1, (1..=junctions).contains(&self.target)),
             (3, self.departure <= self.latest),
             (3, self.latest <= LATEST_CLOCK),
+        ];
+        ends.into_iter().chain(self.figures()).collect()
+    }
+
+    /// Those on words 4 and 5, the starting figures: one above its limit is charged itself.
+    pub fn figures(&self) -> [(u64, bool); 3] {
+        [
             (4, self.spell <= self.spell_limit),
             (5, self.spell <= self.shift),
             (5, self.shift <= self.shift_limit),

@@ -35,7 +35,7 @@ pub trait Planner {
     }
 }
 
-/// Document 01's planner.
+/// What the documents say, with nothing changed.
 pub struct Document;
 
 impl Planner for Document {}

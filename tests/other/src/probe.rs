@@ -36,15 +36,20 @@ pub enum Probe {
     MakeChains {
         map: Vec<u8>,
     },
+    Replay {
+        trace: Vec<u8>,
+        rules: [u32; 4],
+        figures: [u32; 2],
+    },
 }
 
-/// What a call leaves: document 01 fixes all of it.
+/// What a call leaves: the documents fix all of it.
 #[derive(Clone, Debug, PartialEq, Eq)]
 pub struct Answer {
     pub reply: Reply,
     /// Offset and length of a name.
     pub part: (usize, usize),
-    /// The sheet or map lent for writing, afterwards.
+    /// The sheet, map or figures lent for writing, afterwards.
     pub written: Vec<u8>,
     /// False where label words changed although the search had not begun.
     pub labels_kept: bool,
@@ -89,6 +94,11 @@ pub fn answer(operations: &Operations, probe: &Probe) -> Answer {
             let reply = (operations.make_chains)(lent.content());
             written(reply, lent)
         }
+        Probe::Replay {
+            trace,
+            rules,
+            figures,
+        } => answer_replay(operations, trace, *rules, figures),
     }
 }
 
@@ -106,6 +116,23 @@ fn answer_plan(operations: &Operations, run: &Run, labels: &[u32], sheet: &[u8])
         labels_kept: searched || lent_labels.is_unchanged(),
         margins_kept: lent_labels.margins_kept() && lent_sheet.margins_kept(),
         ..written(reply, lent_sheet)
+    }
+}
+
+fn answer_replay(
+    operations: &Operations,
+    trace: &[u8],
+    rules: [u32; 4],
+    figures: &[u32; 2],
+) -> Answer {
+    let mut lent = Lent::new(figures, 0xA5A5_A5A5);
+    let two = lent.content().try_into().expect("two figures");
+    let reply = (operations.replay)(trace, rules, two);
+    let bytes = |figure: &u32| figure.to_le_bytes();
+    Answer {
+        margins_kept: lent.margins_kept(),
+        written: lent.content().iter().flat_map(bytes).collect(),
+        ..Answer::of(reply)
     }
 }
 

@@ -1,4 +1,4 @@
-//! The reply of every operation, and document 01's refusal numbers by name.
+//! The reply of every operation, and the documents' refusal numbers by name.
 
 #[derive(Clone, Copy, Debug, PartialEq, Eq)]
 pub struct Reply {
@@ -50,3 +50,6 @@ pub const OVERRUN: u64 = 17;
 pub const FALSE_FIGURE: u64 = 18;
 pub const STRAY: u64 = 19;
 pub const UNKNOWN_NAME: u64 = 20;
+pub const TORN_TRACE: u64 = 21;
+pub const ODD_RECORD: u64 = 22;
+pub const PAST_LIMIT: u64 = 23;

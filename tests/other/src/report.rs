@@ -16,10 +16,11 @@ impl Probe {
             Probe::Audit { .. } => "audit",
             Probe::Name { .. } => "name",
             Probe::MakeChains { .. } => "make chains",
+            Probe::Replay { .. } => "replay",
         }
     }
 
-    /// Everything lent, in hexadecimal.
+    /// Everything lent, bytes in hexadecimal.
     pub fn describe(&self) -> String {
         let mut text = format!("operation: {}\n", self.operation());
         match self {
@@ -45,6 +46,15 @@ impl Probe {
             Probe::Name { map, junction } => {
                 show(&mut text, "map", map);
                 let _ = writeln!(text, "junction: {junction}");
+            }
+            Probe::Replay {
+                trace,
+                rules,
+                figures,
+            } => {
+                show(&mut text, "trace", trace);
+                let _ = writeln!(text, "rules: {rules:?}");
+                let _ = writeln!(text, "figures before: {figures:?}");
             }
         }
         text

@@ -10,7 +10,9 @@ use crate::moves::{Move, Trip, DRIVE};
 use crate::order::{Order, EUROPEAN_RULES};
 use crate::planning::{MOST_LABELS, WORDS_OF_A_LABEL};
 use crate::probe::Probe;
+use crate::replay::{DRIVING, LONGEST_ACTIVITY, OTHER_WORK, PAUSE};
 use crate::sheet::{Record, Sheet, MOST_MOVES};
+use crate::words::bytes_of;
 
 pub fn probes() -> Vec<Probe> {
     let mut probes = largest_map_probes();
@@ -18,6 +20,7 @@ pub fn probes() -> Vec<Probe> {
     probes.extend(longest_sheet_probes());
     probes.push(label_space_to_spare());
     probes.push(shared_chain());
+    probes.extend(trace_probes());
     probes.push(largest_practice_map());
     probes
 }
@@ -239,6 +242,52 @@ fn shared_chain() -> Probe {
         .iter_mut()
         .for_each(|junction| junction.first = 1);
     Probe::CheckMap { map: map.bytes() }
+}
+
+/// An empty trace, neighbouring pauses of 2^32 seconds together, and a long trace, sound and with a
+/// fault at its very end.
+fn trace_probes() -> [Probe; 4] {
+    let mut last_too_long = long_trace();
+    *last_too_long.last_mut().expect("a record") = (DRIVING, 1);
+    [
+        european_replay(&[], [15, 20]),
+        european_replay(&pause_of_two_to_the_32nd(), [16_200, 32_400]),
+        european_replay(&long_trace(), [0, 0]),
+        european_replay(&last_too_long, [0, 0]),
+    ]
+}
+
+/// Records by activity and seconds, under the European rules.
+fn european_replay(records: &[(u64, u64)], figures: [u32; 2]) -> Probe {
+    let words = |&(activity, seconds): &(u64, u64)| [activity, seconds];
+    Probe::Replay {
+        trace: bytes_of(&records.iter().flat_map(words).collect::<Vec<u64>>()),
+        rules: EUROPEAN_RULES.map(|figure| figure as u32),
+        figures,
+    }
+}
+
+/// A sum that is 0 in 32 bits; the driver needs the rest for the driving behind it.
+fn pause_of_two_to_the_32nd() -> Vec<(u64, u64)> {
+    let (whole, left) = ((1 << 32) / LONGEST_ACTIVITY, (1 << 32) % LONGEST_ACTIVITY);
+    let mut records = vec![(PAUSE, LONGEST_ACTIVITY); whole as usize];
+    records.extend([(PAUSE, left), (DRIVING, 16_200)]);
+    records
+}
+
+/// Days that just keep the European rules: every limit, break and rest is met exactly.
+fn long_trace() -> Vec<(u64, u64)> {
+    let day = [
+        (OTHER_WORK, 1_800),
+        (DRIVING, 16_200),
+        (PAUSE, 1_500),
+        (PAUSE, 1_200),
+        (DRIVING, 16_200),
+        (OTHER_WORK, 900),
+        (PAUSE, 19_800),
+        (PAUSE, 19_800),
+    ];
+    day.repeat(25_000)
 }
 
 /// The largest practice map, with so near a latest that few states are reachable.

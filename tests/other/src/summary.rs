@@ -9,11 +9,12 @@ use crate::make::random::Random;
 use crate::make::{case, Run};
 use crate::moves::{BREAK, DRIVE, REST};
 use crate::operations::DOCUMENT;
-use crate::probe::{answer, Answer};
+use crate::probe::{answer, Answer, Probe};
+use crate::reply::PAST_LIMIT;
 use crate::sheet::{sheet_bytes, Sheet};
 use crate::words::word;
 
-const OPERATIONS: [&str; 7] = [
+const OPERATIONS: [&str; 8] = [
     "check map",
     "check order",
     "plan",
@@ -21,6 +22,7 @@ const OPERATIONS: [&str; 7] = [
     "audit",
     "name",
     "make chains",
+    "replay",
 ];
 
 #[derive(Default)]
@@ -35,6 +37,8 @@ pub struct Summary {
     lengths: BTreeMap<usize, u64>,
     /// Plans with at least one move of a kind.
     kinds: BTreeMap<u64, u64>,
+    /// Accepted traces by the figures that they leave.
+    figures: BTreeMap<&'static str, u64>,
 }
 
 pub fn summary(seed: u64, count: u64) -> Summary {
@@ -43,12 +47,7 @@ pub fn summary(seed: u64, count: u64) -> Summary {
         let case = case(seed, number);
         let random = &mut marks(seed, number);
         for probe in probes(&DOCUMENT, &case, random) {
-            let number = answer(&DOCUMENT, &probe).reply.number;
-            *summary
-                .replies
-                .entry((number, probe.operation()))
-                .or_default() += 1;
-            summary.calls += 1;
+            summary.add_call(&probe, &answer(&DOCUMENT, &probe));
         }
         summary.pairs += u64::from(case.easier.is_some());
         for run in case.runs() {
@@ -59,6 +58,28 @@ pub fn summary(seed: u64, count: u64) -> Summary {
 }
 
 impl Summary {
+    fn add_call(&mut self, probe: &Probe, seen: &Answer) {
+        let key = (seen.reply.number, probe.operation());
+        *self.replies.entry(key).or_default() += 1;
+        self.calls += 1;
+        if let (Probe::Replay { rules, .. }, 0) = (probe, seen.reply.number) {
+            self.add_figures(*rules, seen);
+        }
+    }
+
+    fn add_figures(&mut self, rules: [u32; 4], seen: &Answer) {
+        let [spell_limit, _, shift_limit, _] = rules.map(u64::from);
+        let [spell, shift] = [0, 4].map(|offset| word(&seen.written, offset));
+        for (name, is_so) in [
+            ("spell at its limit", spell == spell_limit),
+            ("shift at its limit", shift == shift_limit),
+            ("spell alone 0", spell == 0 && shift > 0),
+            ("both 0", shift == 0),
+        ] {
+            *self.figures.entry(name).or_default() += u64::from(is_so);
+        }
+    }
+
     fn add_plan(&mut self, random: &mut Random, run: &Run) {
         let seen = answer(&DOCUMENT, &ample_plan(random, run));
         if let Some(count) = label_count(&seen.reply) {
@@ -89,7 +110,7 @@ impl Summary {
             let _ = write!(text, "{operation:>12}");
         }
         text.push('\n');
-        for number in 0..=20 {
+        for number in 0..=PAST_LIMIT {
             let _ = write!(text, "{number:>7}");
             for operation in OPERATIONS {
                 let times = self.replies.get(&(number, operation)).unwrap_or(&0);
@@ -100,6 +121,7 @@ impl Summary {
         describe_row(&mut text, "runs with N from", &self.counts);
         describe_row(&mut text, "plans with moves", &self.lengths);
         describe_row(&mut text, "plans with kind", &self.kinds);
+        describe_row(&mut text, "traces that leave", &self.figures);
         text
     }
 }

@@ -43,6 +43,7 @@ fn answer_next(stored: &mut &[u8]) -> String {
         }
         b'a' => line((DOCUMENT.audit)(map, order, sheet)),
         b'p' => planned(map, order, vec![number as u32; label_words], sheet),
+        b't' => replayed(order, sheet),
         other => format!("unknown kind {other}"),
     };
     format!("{title}: {answer}\n")
@@ -59,6 +60,15 @@ fn planned(map: &[u8], order: &[u8], before: Vec<u32>, sheet: &[u8]) -> String {
         _ => "",
     };
     format!("{} {}{stayed}", line(reply), hexadecimal(&lent))
+}
+
+/// The reply, and the two figures afterwards. The hours are words 4 to 9 of an order.
+fn replayed(hours: &[u8], trace: &[u8]) -> String {
+    let [spell, shift, rules @ ..] = [0, 4, 8, 12, 16, 20].map(|offset| word(hours, offset) as u32);
+    let mut figures = [spell, shift];
+    let reply = (DOCUMENT.replay)(trace, rules, &mut figures);
+    let [spell, shift] = figures;
+    format!("{} {spell} {shift}", line(reply))
 }
 
 fn take<'a>(stored: &mut &'a [u8], length: usize) -> &'a [u8] {

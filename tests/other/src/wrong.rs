@@ -5,9 +5,14 @@ use crate::map::Road;
 use crate::mapcheck::{check_map, MOST_JUNCTIONS};
 use crate::moves::{Move, State, Trip, BREAK, DRIVE, REST};
 use crate::names::name;
-use crate::operations::{NameAnswer, Operations, PlanFunction, RetimeFunction, DOCUMENT};
+use crate::operations::{
+    NameAnswer, Operations, PlanFunction, ReplayFunction, RetimeFunction, DOCUMENT,
+};
 use crate::order::{check_order, refuse_broken, Order, ORDER_BYTES};
 use crate::planning::{labels_that_fit, plan, Document, Planner};
+use crate::replay::{
+    is_past_limit, replay, Replayer, TraceRecord, DRIVING, PAUSE, TRACE_RECORD_BYTES,
+};
 use crate::reply::*;
 use crate::retiming::{audit, retime};
 use crate::sheet::{sheet_bytes, Sheet};
@@ -51,6 +56,7 @@ pub fn wrong_copies() -> Vec<WrongCopy> {
     let mut copies: Vec<WrongCopy> = planning.map(with_plan).into();
     copies.extend(other_copies());
     copies.extend(check_copies());
+    copies.extend(replay_copies());
     copies
 }
 
@@ -106,6 +112,30 @@ fn check_copies() -> [WrongCopy; 3] {
             },
         },
     ]
+}
+
+fn replay_copies() -> [WrongCopy; 12] {
+    let replaying: [(&'static str, ReplayFunction); 12] = [
+        ("pauses-not-joined", replay::<PausesNotJoined>),
+        ("pauses-joined-across-work", replay::<JoinedAcrossWork>),
+        ("break-just-met-clears-nothing", replay::<BreakStrict>),
+        ("rest-just-met-clears-spell-alone", replay::<RestStrict>),
+        ("limit-just-met-is-past", replay::<LimitStrict>),
+        ("past-limit-before-odd-record", replay::<PastBeforeOdd>),
+        (
+            "seconds-of-driving-judged-alone",
+            replay::<DrivingJudgedAlone>,
+        ),
+        ("every-odd-record-first", every_odd_record_first),
+        ("torn-trace-before-rules", torn_trace_before_rules),
+        ("refused-trace-half-replayed", refused_trace_half_replayed),
+        ("pause-at-the-end-unjudged", pause_at_the_end_unjudged),
+        ("activity-by-its-low-byte", activity_by_its_low_byte),
+    ];
+    replaying.map(|(name, replay)| WrongCopy {
+        name,
+        operations: Operations { replay, ..DOCUMENT },
+    })
 }
 
 struct ClockAlone;
@@ -424,4 +454,122 @@ fn order_rules_after_trip(bytes: &[u8], junctions: u32) -> Reply {
     let judged = refuse_broken(BAD_TRIP, &order.trip(u64::from(junctions)))
         .and_then(|()| refuse_broken(BAD_RULES, &order.rules()));
     told(judged.map(|()| Reply::success(0, 0)))
+}
+
+struct PausesNotJoined;
+
+impl Replayer for PausesNotJoined {
+    fn joins(_: &TraceRecord, _: &TraceRecord) -> bool {
+        false
+    }
+}
+
+struct JoinedAcrossWork;
+
+impl Replayer for JoinedAcrossWork {
+    fn joins(one: &TraceRecord, next: &TraceRecord) -> bool {
+        one.activity != DRIVING && next.activity != DRIVING
+    }
+}
+
+struct BreakStrict;
+
+impl Replayer for BreakStrict {
+    fn clears_spell(pause: u64, order: &Order) -> bool {
+        pause > order.break_time || Self::clears_shift(pause, order)
+    }
+}
+
+struct RestStrict;
+
+impl Replayer for RestStrict {
+    fn clears_shift(pause: u64, order: &Order) -> bool {
+        pause > order.rest_time
+    }
+}
+
+struct LimitStrict;
+
+impl Replayer for LimitStrict {
+    fn refusal(records: &[TraceRecord], order: &Order) -> Option<u64> {
+        let lower = Order {
+            spell_limit: order.spell_limit - 1,
+            shift_limit: order.shift_limit - 1,
+            ..order.clone()
+        };
+        Document::refusal(records, &lower)
+    }
+}
+
+struct PastBeforeOdd;
+
+impl Replayer for PastBeforeOdd {
+    fn refusal(records: &[TraceRecord], order: &Order) -> Option<u64> {
+        if is_past_limit::<Document>(records, order) {
+            return Some(PAST_LIMIT);
+        }
+        Document::refusal(records, order)
+    }
+}
+
+struct DrivingJudgedAlone;
+
+impl Replayer for DrivingJudgedAlone {
+    fn refusal(records: &[TraceRecord], order: &Order) -> Option<u64> {
+        match records.last()?.activity {
+            DRIVING => Document::refusal(records, order),
+            activity => (activity > PAUSE).then_some(ODD_RECORD),
+        }
+    }
+}
+
+/// The right reply, with the figures brought up to date as they must be.
+fn right_replay(trace: &[u8], rules: [u32; 4], figures: &mut [u32; 2]) -> Reply {
+    replay::<Document>(trace, rules, figures)
+}
+
+fn every_odd_record_first(trace: &[u8], rules: [u32; 4], figures: &mut [u32; 2]) -> Reply {
+    let reply = right_replay(trace, rules, figures);
+    let records = TraceRecord::read_all(trace);
+    match records.iter().position(TraceRecord::is_odd) {
+        Some(index) if reply.number == PAST_LIMIT => Reply::refused(ODD_RECORD, index as u64 + 1),
+        _ => reply,
+    }
+}
+
+fn torn_trace_before_rules(trace: &[u8], rules: [u32; 4], figures: &mut [u32; 2]) -> Reply {
+    if trace.len().is_multiple_of(TRACE_RECORD_BYTES) {
+        return right_replay(trace, rules, figures);
+    }
+    Reply::refused(TORN_TRACE, trace.len() as u64)
+}
+
+/// Leaves the figures that the records before the refused one lead to.
+fn refused_trace_half_replayed(trace: &[u8], rules: [u32; 4], figures: &mut [u32; 2]) -> Reply {
+    let reply = right_replay(trace, rules, figures);
+    if [ODD_RECORD, PAST_LIMIT].contains(&reply.number) {
+        let before = TRACE_RECORD_BYTES * (reply.place as usize - 1);
+        right_replay(&trace[..before], rules, figures);
+    }
+    reply
+}
+
+fn pause_at_the_end_unjudged(trace: &[u8], rules: [u32; 4], figures: &mut [u32; 2]) -> Reply {
+    let start = *figures;
+    let reply = right_replay(trace, rules, figures);
+    if reply.number == 0 {
+        let mut records = TraceRecord::read_all(trace);
+        while records.pop_if(|last| last.activity == PAUSE).is_some() {}
+        *figures = start;
+        right_replay(&TraceRecord::all_bytes(&records), rules, figures);
+    }
+    reply
+}
+
+fn activity_by_its_low_byte(trace: &[u8], rules: [u32; 4], figures: &mut [u32; 2]) -> Reply {
+    let mut low = trace.to_vec();
+    for record in low.chunks_exact_mut(TRACE_RECORD_BYTES) {
+        record[1..4].fill(0);
+    }
+    right_replay(&low, rules, figures)
 }

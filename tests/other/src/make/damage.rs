@@ -120,7 +120,8 @@ fn last_or_above(random: &mut Random, last: u64) -> u64 {
 pub fn damaged_order(random: &mut Random, sound: &[u8]) -> Vec<u8> {
     let mut bytes = sound.to_vec();
     for _ in 0..random.pick(&[0, 1, 1, 1, 2, 3]) {
-        damage_order_word(random, &mut bytes);
+        let number = random.index(10);
+        damage_order_word(random, &mut bytes, number);
     }
     if random.one_in(6) {
         bytes.resize(random.pick(&[0, 4, 36, 39, 41, 44, 48, 80]), 0);
@@ -128,8 +129,8 @@ pub fn damaged_order(random: &mut Random, sound: &[u8]) -> Vec<u8> {
     bytes
 }
 
-fn damage_order_word(random: &mut Random, bytes: &mut [u8]) {
-    let number = random.index(10);
+/// Replaces a word of an order by one that its own rules ask about, or by one near another word.
+pub fn damage_order_word(random: &mut Random, bytes: &mut [u8], number: usize) {
     let figure = match number {
         0 | 1 => random.pick(&[0, 1, 8, 9, ALL_BITS]),
         2 | 3 => random.pick(&[0, LATEST_CLOCK, LATEST_CLOCK + 1, ALL_BITS]),

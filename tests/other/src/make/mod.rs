@@ -7,11 +7,13 @@ pub mod pairs;
 pub mod practice;
 pub mod random;
 pub mod sheets;
+pub mod traces;
 
 use crate::moves::Trip;
 use crate::planning::{answer_of, labels_of, reachable_states, Document};
 use random::Random;
 use sheets::Timing;
+use traces::Replay;
 
 /// A map and an order, as bytes.
 #[derive(Clone, Debug)]
@@ -30,6 +32,8 @@ pub struct Case {
     pub spoilt_maps: Vec<Vec<u8>>,
     /// A second run that makes nothing worse than `run`, which is then accepted (demand 3).
     pub easier: Option<Run>,
+    /// Traces, each with its own rules and figures.
+    pub replays: Vec<Replay>,
 }
 
 impl Case {
@@ -49,18 +53,22 @@ impl Case {
 const TIMINGS: usize = 4;
 const SPOILT_ORDERS: usize = 4;
 const SPOILT_MAPS: usize = 8;
+const REPLAYS: usize = 8;
 const MOST_DRAWS: usize = 12;
 
 /// The case of a seed and a number: each can be made again on its own.
 pub fn case(seed: u64, number: u64) -> Case {
     let random = &mut Random::new(seed, number);
     let trip = random_trip(random);
-    match random.below(10) {
+    let mut case = match random.below(10) {
         0..=4 => sound_case(random, &trip),
         5..=6 => pair_case(random, &trip),
         7..=8 => damaged_map_case(random, &trip),
         _ => damaged_order_case(random, &trip),
-    }
+    };
+    let replay = |_| traces::random_replay(random);
+    case.replays = (0..REPLAYS).map(replay).collect();
+    case
 }
 
 /// Most trips drawn at random have hardly a label, so that several are drawn until one has as many
@@ -121,6 +129,7 @@ fn sound_case(random: &mut Random, trip: &Trip) -> Case {
             .map(|_| damage::damaged_map(random, &trip.map))
             .collect(),
         easier: None,
+        replays: Vec::new(),
     }
 }
 
@@ -133,6 +142,7 @@ fn pair_case(random: &mut Random, trip: &Trip) -> Case {
         timings: Vec::new(),
         spoilt_maps: Vec::new(),
         easier: Some(run_of(&easier)),
+        replays: Vec::new(),
     }
 }
 

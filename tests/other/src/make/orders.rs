@@ -52,7 +52,7 @@ fn random_unit(random: &mut Random, map: &Map) -> u64 {
 }
 
 /// Words 6 to 9.
-fn random_rules(random: &mut Random, unit: u64) -> [u64; 4] {
+pub fn random_rules(random: &mut Random, unit: u64) -> [u64; 4] {
     if random.one_in(5) {
         return EUROPEAN_RULES;
     }
@@ -68,7 +68,7 @@ fn random_rules(random: &mut Random, unit: u64) -> [u64; 4] {
 }
 
 /// Words 4 and 5.
-fn random_figures(random: &mut Random, spell_limit: u64, shift_limit: u64) -> (u64, u64) {
+pub fn random_figures(random: &mut Random, spell_limit: u64, shift_limit: u64) -> (u64, u64) {
     match random.below(6) {
         0..=3 => (0, 0),
         4 => (spell_limit, random.pick(&[spell_limit, shift_limit])),

@@ -16,7 +16,7 @@ use crate::reply::Reply;
 use crate::sheet::sheet_bytes;
 use crate::special;
 use crate::words::word;
-use crate::wrong::wrong_copies;
+use crate::wrong::{wrong_copies, WrongCopy};
 
 const SEED: u64 = 1;
 const CASES: u64 = 300;
@@ -108,19 +108,28 @@ pub fn plans_pass_their_audit() {
     }
 }
 
-/// The laws alone, without a second implementation, must find such planners.
-pub fn laws_notice_wrong_planners() {
-    for copy in wrong_copies() {
-        if !["full-when-just-enough", "invented-count", "sheet-unwritten"].contains(&copy.name) {
-            continue;
-        }
+/// Wrong copies that the laws alone must find, without a second implementation.
+const UNLAWFUL: [&str; 6] = [
+    "full-when-just-enough",
+    "invented-count",
+    "sheet-unwritten",
+    "pauses-joined-across-work",
+    "refused-trace-half-replayed",
+    "pause-at-the-end-unjudged",
+];
+
+pub fn laws_notice_wrong_copies() {
+    let copies = wrong_copies();
+    for name in UNLAWFUL {
+        let is_named = |copy: &&WrongCopy| copy.name == name;
+        let copy = copies.iter().find(is_named).expect(name);
         let unnoticed = (1..)
             .zip(cases())
             .filter(|(_, case)| case.easier.is_some())
             .all(|(number, case)| {
                 obeyed(&copy.operations, &case, &mut marks(SEED, number)).is_ok()
             });
-        assert!(!unnoticed, "{}", copy.name);
+        assert!(!unnoticed, "{name}");
     }
 }
 
@@ -150,6 +159,10 @@ pub fn special_calls_have_the_replies_meant() {
         ("audit", 15, longest),
         ("plan", 0, 1),
         ("check map", 7, 1),
+        ("replay", 0, 0),
+        ("replay", 0, 4_296),
+        ("replay", 0, 200_000),
+        ("replay", 23, 200_000),
     ];
     assert_eq!(replies[..expected.len()], expected);
     let (operation, number, labels) = replies[expected.len()];

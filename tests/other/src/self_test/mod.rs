@@ -6,6 +6,7 @@ mod map_cases;
 mod order_cases;
 mod plan_cases;
 mod sheet_cases;
+mod trace_cases;
 mod trial_trips;
 
 /// A test's name and the function that panics where it fails.
@@ -58,11 +59,17 @@ pub fn tests() -> Vec<Test> {
         sheet_cases::torn,
         sheet_cases::stray_and_short,
         sheet_cases::false_figures,
+        trace_cases::nothing_to_replay,
+        trace_cases::activities,
+        trace_cases::neighbouring_pauses_are_one,
+        trace_cases::limits,
+        trace_cases::odd_records,
+        trace_cases::order_of_refusals,
         making::practice_maps,
         making::pairs_make_nothing_worse,
         making::dominance_by_pairs_agrees,
         making::plans_pass_their_audit,
-        making::laws_notice_wrong_planners,
+        making::laws_notice_wrong_copies,
         making::special_calls_have_the_replies_meant,
     ]
 }
