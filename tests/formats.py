@@ -1,9 +1,10 @@
-"""Maps, orders and sheets as bytes, in the formats of document 01."""
+"""Maps, orders and sheets as bytes, in the formats of document 01, and traces in that of document 02 (P3)."""
 import struct
 
 ALL_BITS = 0xFFFFFFFF
 EUROPE = [1, 3, 0, 100000, 0, 0, 16200, 2700, 32400, 39600]
 DRIVE, BREAK, REST = 1, 2, 3
+WORK, DRIVING, PAUSE = 0, 1, 2
 
 # What the program prints of map T and its order, as document 01 has it.
 T_LISTING = """\
@@ -68,3 +69,8 @@ def order(base=EUROPE, **at):
 def sheet(rows, arrival=0, spell=0, shift=0, labels=4, moves=None):
     head = words(len(rows) if moves is None else moves, arrival, spell, shift, labels)
     return head + b"".join(words(*r) for r in rows)
+
+
+def trace(records):
+    """Records of activity and seconds, one after the other."""
+    return b"".join(words(*r) for r in records)

@@ -4,18 +4,26 @@
 // words of label space, and the lengths of map, order and sheet), the map, the order, the sheet. The
 // number is the junction asked for a name, the junction count for an order, the length of the lent
 // sheet for retiming, and for planning what every label word holds beforehand. The sheet of planning
-// is the one that is lent.
+// is the one that is lent. For replaying, the order's place has an order's words 4 to 9 alone, and the
+// sheet's place the trace.
 ghost use Prim.Native.Nat.{_≤_, _<_};
 ghost use lib.ListN.{length};
+use driving::Figures;
+use driving::Rules;
 use libc::STDIN_FILENO;
 use libc::STDOUT_FILENO;
 use replies::Reply;
+use seconds::Clock;
+use seconds::Wheel;
 
 // Room for all cases. Cases that fill it may have lost their end, and are refused.
 const CASE_BYTES: usize = 262144;
 
 // The five words of a case.
 const HEADER_BYTES: usize = 20;
+
+// The driver's figures and the rules: an order's words 4 to 9.
+const HOURS_BYTES: usize = 24;
 
 // Refusals below this number are given before the search, and leave the label space as it was.
 const FIRST_OF_SEARCH: u32 = 12;
@@ -142,6 +150,31 @@ fn run_on_sheet(case: Case, map: &[u8], order: &[u8], sheet: &[u8], space: &mut 
     }
 }
 
+// Prints the reply, and the figures afterwards.
+fn run_replay(hours: &[u8], trace: &[u8]) {
+    if hours.len() != HOURS_BYTES {
+        return;
+    }
+    let figures = Figures {
+        spell: Wheel(words::word(hours, 0)),
+        shift: Wheel(words::word(hours, 4)),
+    };
+    let rules = Rules {
+        spell_limit: Wheel(words::word(hours, 8)),
+        break_time: Clock(words::word(hours, 12)),
+        shift_limit: Wheel(words::word(hours, 16)),
+        rest_time: Clock(words::word(hours, 20)),
+    };
+    let outcome = replay::replay_from(trace, rules, figures);
+    let answer = outcome.answer;
+    let after = outcome.figures;
+    print_reply(answer.reply());
+    print(b" ");
+    print_number(after.spell.0 as u64);
+    print(b" ");
+    print_number(after.shift.0 as u64);
+}
+
 // Where a refusal came before the search, whether every label word is as it was.
 fn print_kept(number: u32, words: &[u32], before: u32) {
     if number == 0 || FIRST_OF_SEARCH <= number {
@@ -215,6 +248,10 @@ fn run(
             space,
             labels,
         );
+        return;
+    }
+    if case.kind == b't' {
+        run_replay(&bytes[order..sheet], &bytes[sheet..end]);
         return;
     }
     run_on_sheet(
