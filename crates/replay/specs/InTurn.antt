@@ -25,7 +25,8 @@ abbrev pub whatIsBefore : Bool → ℕ → ℕ → ℕ
 whatIsBefore true bytes records = bytes
 whatIsBefore false bytes records = records
 
--- the second's reply, told of both in one: 21 has the length of both as its place, and any other place counts the first's records too
+-- the second's reply, told of both in one: 21 has the length of both as its place, and a success, 22 and 23 count the first's records too.
+-- Behind an accepted trace neither 10 nor 11 is told.
 abbrev pub behind : List ℕ → Reply → Reply
 behind one reply =
     record {
