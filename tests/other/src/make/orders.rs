@@ -12,8 +12,7 @@ pub const MOST_STATES: usize = 2_000;
 pub fn random_order(random: &mut Random, map: &Map) -> Order {
     let junctions = map.junctions.len() as u64;
     let unit = random_unit(random, map);
-    let [spell_limit, break_time, shift_limit, rest_time] = random_rules(random, unit);
-    let (spell, shift) = random_figures(random, spell_limit, shift_limit);
+    let hours = random_hours(random, unit);
     let multiple = random.pick(&[0, 2, 5, 10, 20, 40]);
     let span = near(random, unit * multiple);
     let departure = random_departure(random, span);
@@ -23,13 +22,16 @@ pub fn random_order(random: &mut Random, map: &Map) -> Order {
         target,
         departure,
         latest: (departure + span).min(LATEST_CLOCK),
-        spell,
-        shift,
-        spell_limit,
-        break_time,
-        shift_limit,
-        rest_time,
+        ..hours
     }
+}
+
+/// An order with accepted rules and figures, measured by this unit; it has no trip.
+pub fn random_hours(random: &mut Random, unit: u64) -> Order {
+    let rules = random_rules(random, unit);
+    let [spell_limit, _, shift_limit, _] = rules;
+    let (spell, shift) = random_figures(random, spell_limit, shift_limit);
+    Order::of_hours(rules, [spell, shift])
 }
 
 /// Often the two ends of the line that many maps have.
@@ -52,7 +54,7 @@ fn random_unit(random: &mut Random, map: &Map) -> u64 {
 }
 
 /// Words 6 to 9.
-pub fn random_rules(random: &mut Random, unit: u64) -> [u64; 4] {
+fn random_rules(random: &mut Random, unit: u64) -> [u64; 4] {
     if random.one_in(5) {
         return EUROPEAN_RULES;
     }
@@ -68,7 +70,7 @@ pub fn random_rules(random: &mut Random, unit: u64) -> [u64; 4] {
 }
 
 /// Words 4 and 5.
-pub fn random_figures(random: &mut Random, spell_limit: u64, shift_limit: u64) -> (u64, u64) {
+fn random_figures(random: &mut Random, spell_limit: u64, shift_limit: u64) -> (u64, u64) {
     match random.below(6) {
         0..=3 => (0, 0),
         4 => (spell_limit, random.pick(&[spell_limit, shift_limit])),

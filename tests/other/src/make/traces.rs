@@ -3,7 +3,7 @@
 //! matters.
 
 use super::damage::damage_order_word;
-use super::orders::{random_figures, random_rules};
+use super::orders::random_hours;
 use super::random::Random;
 use crate::order::Order;
 use crate::planning::Document;
@@ -38,7 +38,8 @@ impl Replay {
 const UNITS: [u64; 6] = [1, 2, 3, 7, 3_600, 333_333];
 
 pub fn random_replay(random: &mut Random) -> Replay {
-    let order = random_hours(random);
+    let unit = random.pick(&UNITS);
+    let order = random_hours(random, unit);
     let mut records = random_records(random, &order);
     for _ in 0..random.pick(&[0, 0, 0, 0, 1, 1, 2, 3]) {
         damage_record(random, &mut records, &order);
@@ -58,15 +59,6 @@ pub fn random_replay(random: &mut Random) -> Replay {
         rules: [6, 7, 8, 9].map(word),
         figures: [4, 5].map(word),
     }
-}
-
-/// An order with accepted rules and figures; it has no trip.
-fn random_hours(random: &mut Random) -> Order {
-    let unit = random.pick(&UNITS);
-    let rules = random_rules(random, unit);
-    let [spell_limit, _, shift_limit, _] = rules;
-    let (spell, shift) = random_figures(random, spell_limit, shift_limit);
-    Order::of_hours(rules, [spell, shift])
 }
 
 fn random_records(random: &mut Random, order: &Order) -> Vec<TraceRecord> {
