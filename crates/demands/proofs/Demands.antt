@@ -55,7 +55,8 @@ use Rattle.demands.proofs.Refusals.{replies-by, by-number}
 use Rattle.demands.proofs.Counted.{counts-labels}
 use Rattle.demands.proofs.Said.{accepted-by, full-said, full-place, no-road-said, no-road-place, plans-said, short-said}
 use Rattle.demands.proofs.Chained.{length-chained, chained-passes, chained-else}
-use Rattle.demands.proofs.Replayed.{left-refused, told-accepted, left-accepted, sound-left, told-in-turn, left-in-turn, told-first}
+use Rattle.replay.proofs.Replays.{left-refused}
+use Rattle.demands.proofs.Replayed.{told-accepted, left-accepted, sound-left, told-in-turn, left-in-turn, told-first}
 use Rattle.demands.proofs.Retimed.{state, same-moves, same-labels, rest-retimed, length-retimed, told-retimed, retimed-holds, retimed-passes}
 use Rattle.demands.proofs.Audited.{reached-by, audited-holds, audited-told}
 use Rattle.demands.proofs.Written.{Wrote, wrote, rest-written, length-written, heading-written, holds-journey, none-earlier, none-lower}

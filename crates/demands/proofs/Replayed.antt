@@ -1,10 +1,8 @@
 -- What a replay tells and leaves, by its contract alone; and of two in turn. Assumes nothing.
 use mathlib.Core.Path.{_≡_, _∙_, sym, ap}
-use mathlib.Core.Bool.{Bool}
 use mathlib.Core.List.{List, _++_}
 use mathlib.Core.Option.{none}
 use Prim.Native.Nat.{ℕ}
-use borrow.Author.Tests.{eq-eqb, ne-eqb}
 use lib.Dec.{T}
 use Rattle.replies.specs.declared.Reply.{Reply}
 use Rattle.replies.specs.declared.Replaying.{Replaying}
@@ -16,8 +14,9 @@ use Rattle.driving.specs.declared.Rules.{Rules}
 use Rattle.driving.specs.Order.{badFigures}
 use Rattle.driving.proofs.Accepted.{sound-figures-pass}
 use Rattle.replay.specs.Trace.{recordCount, recordsOf}
-use Rattle.replay.specs.Replay.{pickFigures, upToDate, tornTrace, replayTests, replayReply, figuresAfter, Replayed}
+use Rattle.replay.specs.Replay.{upToDate, tornTrace, replayTests, replayReply, figuresAfter, Replayed}
 use Rattle.replay.specs.InTurn.{noneGoesOn, behind}
+use Rattle.replay.proofs.Replays.{figures-accepted}
 use Rattle.replay.proofs.Accepted.{leaves-sound}
 use Rattle.replay.proofs.Followed.{reply-both, figures-after-both, reply-first}
 
@@ -25,12 +24,6 @@ abbrev number : Reply → ℕ
 number r = r .number
 
 module _ {trace : List ℕ} {rules : Rules} {before after : Figures} {answer : Replaying} (replayed : Replayed trace rules before after answer) where
-  pub left-refused : ¬ (toldReplaying answer .number ≡ 0) → after ≡ before
-  unfolding figuresAfter
-  left-refused refused =
-      replayed .figures
-      ∙ ap (λ (b : Bool). pickFigures b (upToDate rules (recordsOf trace) before) before) (ne-eqb (replayReply trace rules before .number) 0 (λ e. refused (ap number (replayed .reply) ∙ e)))
-
   module _ (done : toldReplaying answer .number ≡ 0) where
     done-reply : replayReply trace rules before .number ≡ 0
     done-reply = sym (ap number (replayed .reply)) ∙ done
@@ -42,9 +35,7 @@ module _ {trace : List ℕ} {rules : Rules} {before after : Figures} {answer : R
     told-accepted = replayed .reply ∙ none-at-all (replayTests trace rules before) (succeeded (recordCount trace) 0) passed
 
     pub left-accepted : after ≡ upToDate rules (recordsOf trace) before
-    unfolding figuresAfter
-    left-accepted =
-        replayed .figures ∙ ap (λ (b : Bool). pickFigures b (upToDate rules (recordsOf trace) before) before) (eq-eqb (replayReply trace rules before .number) 0 done-reply)
+    left-accepted = replayed .figures ∙ figures-accepted trace rules before done-reply
 
     pub sound-left : badFigures after rules ≡ none
     sound-left = ap (λ (f : Figures). badFigures f rules) left-accepted ∙ sound-figures-pass (upToDate rules (recordsOf trace) before) rules (leaves-sound trace rules before passed)

@@ -19,9 +19,10 @@ use Rattle.driving.specs.declared.Rules.{Rules}
 use Rattle.driving.proofs.Accepted.{sound-figures-pass}
 use Rattle.replay.specs.declared.TraceRecord.{TraceRecord}
 use Rattle.replay.specs.Trace.{traceRecordBytes, traceRecordAt, recordCount, recordsOf}
-use Rattle.replay.specs.Replay.{pickFigures, upToDate, tornTrace, isOdd, isStopped, firstStopped, placedWhere, replayTests, replayReply, figuresAfter}
+use Rattle.replay.specs.Replay.{upToDate, tornTrace, isOdd, isStopped, firstStopped, placedWhere, replayTests, replayReply, figuresAfter}
 use Rattle.replay.specs.InTurn.{noneGoesOn, whatIsBefore, behind}
 use Rattle.replay.specs.Steps.{startTests, traceTests}
+use Rattle.replay.proofs.Replays.{figures-accepted}
 use Rattle.replay.proofs.Accepted.{untorn-whole, whole-trace, none-below, leaves-sound}
 use Rattle.replay.proofs.InTurn.{count-both, record-one, record-two, stopped-one, stopped-two, figures-both}
 
@@ -135,12 +136,8 @@ module _ (one two : List ℕ) (rules : Rules) (f : Figures) (passes : NoneFits (
       (ap (λ (n : ℕ). succeeded n 0) (count-both one two whole))
 
   pub figures-after-both : replayReply two rules left .number ≡ 0 → figuresAfter (one ++ two) rules f ≡ figuresAfter two rules left
-  unfolding figuresAfter
   figures-after-both done =
-      let done-both : replayReply (one ++ two) rules f .number ≡ 0 = ap (λ (r : Reply). r .number) reply-both ∙ done in
-      ap (λ (b : Bool). pickFigures b (upToDate rules (recordsOf (one ++ two)) f) f) (eq-eqb _ _ done-both)
-      ∙ figures-both one two whole rules f apart
-      ∙ ap (λ (b : Bool). pickFigures b (upToDate rules (recordsOf two) left) left) (sym (eq-eqb _ _ done))
+      figures-accepted (one ++ two) rules f (ap (λ (r : Reply). r .number) reply-both ∙ done) ∙ figures-both one two whole rules f apart ∙ sym (figures-accepted two rules left done)
 
 -- What the first alone refuses.
 first-same : (ts us vs : List Test) (s s′ : Reply) → ¬ (firstOf (ts ++ us) s .number ≡ 0) → (¬ (firstOf us s .number ≡ 0) → firstOf us s ≡ firstOf vs s′) → firstOf (ts ++ us) s ≡ firstOf (ts ++ vs) s′

@@ -9,7 +9,7 @@ use Rattle.replies.specs.declared.Refusal.{Refusal}
 use Rattle.replies.specs.declared.Replaying.{Replaying}
 use Rattle.replies.specs.declared.Reply.{Reply}
 use Rattle.replies.specs.First.{_at_, NoneFits, Refuses}
-use Rattle.replies.specs.Told.{succeeded, toldRefusal}
+use Rattle.replies.specs.Told.{succeeded, toldRefusal, toldReplaying}
 use Rattle.replies.proofs.First.{refusal-number, none-fits, none-at-all, stops-at, refuses-after, none-of-both}
 use Rattle.driving.specs.declared.Figures.{Figures}
 use Rattle.driving.specs.declared.Rules.{Rules}
@@ -27,10 +27,17 @@ module _ (trace : List ℕ) (rules : Rules) (f : Figures) where
       refuses-after ((21 at tornTrace trace) ∷ []) (recordTests trace rules f) why (rw (eq-eqb (length trace % traceRecordBytes) 0 whole) refl, tt) says
   whole-says whole (Step.Taken u) says = ((rw (eq-eqb (length trace % traceRecordBytes) 0 whole) refl, says .0), says .1)
 
-  -- a refusal leaves the figures
-  refused : (why : Refusal) → toldRefusal why ≡ replayReply trace rules f → Replayed trace rules f f (Replaying.Refused why)
+  -- a refusal leaves the figures, and a success has them brought up to date
+  pub figures-refused : ¬ (replayReply trace rules f .number ≡ 0) → figuresAfter trace rules f ≡ f
   unfolding figuresAfter
-  refused why told = record { reply = told; figures = sym (rw (ne-eqb (replayReply trace rules f .number) 0 (λ e. omega (arith, refusal-number why, ap (λ (r : Reply). r .number) told)))) }
+  figures-refused refused = rw (ne-eqb (replayReply trace rules f .number) 0 refused)
+
+  pub figures-accepted : replayReply trace rules f .number ≡ 0 → figuresAfter trace rules f ≡ upToDate rules (recordsOf trace) f
+  unfolding figuresAfter
+  figures-accepted done = rw (eq-eqb (replayReply trace rules f .number) 0 done)
+
+  refused : (why : Refusal) → toldRefusal why ≡ replayReply trace rules f → Replayed trace rules f f (Replaying.Refused why)
+  refused why told = record { reply = told; figures = sym (figures-refused (λ e. omega (arith, refusal-number why, ap (λ (r : Reply). r .number) told))) }
 
   pub start-refused : (why : Refusal) → Refuses (startTests rules f) why → Replayed trace rules f f (Replaying.Refused why)
   start-refused why refuses = refused why (sym (refuses (traceTests trace rules f) (succeeded (recordCount trace) 0)))
@@ -41,7 +48,12 @@ module _ (trace : List ℕ) (rules : Rules) (f : Figures) where
         refused why (sym (none-fits (startTests rules f) (traceTests trace rules f) (succeeded (recordCount trace) 0) passes ∙ refuses [] (succeeded (recordCount trace) 0)))
 
     pub trace-accepted : (g : Figures) → NoneFits (traceTests trace rules f) → g ≡ upToDate rules (recordsOf trace) f → Replayed trace rules f g (Replaying.Replayed (recordCount trace))
-    unfolding figuresAfter
     trace-accepted g none-fits is =
         let told : replayReply trace rules f ≡ succeeded (recordCount trace) 0 = none-at-all (startTests rules f ++ traceTests trace rules f) _ (none-of-both (startTests rules f) (traceTests trace rules f) passes none-fits) in
-        record { reply = sym told; figures = is ∙ sym (rw told) }
+        record { reply = sym told; figures = is ∙ sym (figures-accepted (ap (λ (r : Reply). r .number) told)) }
+
+-- what the contract alone says of a refused trace
+pub left-refused : {trace : List ℕ} {rules : Rules} {before after : Figures} {answer : Replaying} → Replayed trace rules before after answer →
+    ¬ (toldReplaying answer .number ≡ 0) → after ≡ before
+left-refused {trace} {rules} {before} replayed refused =
+    replayed .figures ∙ figures-refused trace rules before (λ e. refused (ap (λ (r : Reply). r .number) (replayed .reply) ∙ e))

@@ -22,8 +22,8 @@ use Rattle.mapedit.specs.Name.{nameReply, nameAt, namePart}
 use Rattle.mapedit.specs.Chaining.{ChainMaking}
 use Rattle.mapedit.proofs.Named.{length-named}
 use Rattle.driving.specs.declared.Figures.{Figures}
-use Rattle.replay.specs.Replay.{pickFigures, upToDate, replayReply, figuresAfter, Replayed}
-use Rattle.replay.specs.Trace.{recordsOf}
+use Rattle.replay.specs.Replay.{Replayed}
+use Rattle.replay.proofs.Replays.{left-refused}
 use Rattle.retiming.specs.Retiming.{Retimed}
 use Rattle.planner.specs.Planned.{Planned}
 use Rattle.trunk.specs.Written.{replyPut, partPut, rulesIn, figuresIn, figuresPut}
@@ -134,12 +134,5 @@ part-spells map junction part room =
 -- a refused trace leaves every word of the lent figures
 pub replay-leaves : (trace rules figures : List ℕ) {figures′ : List ℕ} {answer : Replaying} {after : Figures} → Replayed trace (rulesIn rules) (figuresIn figures) after answer
     → figures′ ≡ figuresPut figures after → ¬ (toldReplaying answer .number ≡ 0) → figures′ ≡ figures
-unfolding figuresAfter
 replay-leaves trace rules figures replayed put refused =
-    put
-    ∙ ap (figuresPut figures)
-    (replayed .figures
-    ∙ ap (λ (b : Bool). pickFigures b (upToDate (rulesIn rules) (recordsOf trace) (figuresIn figures)) (figuresIn figures))
-    (ne-eqb (replayReply trace (rulesIn rules) (figuresIn figures) .number) 0 (λ e. refused (ap (λ (r : Reply). r .number) (replayed .reply) ∙ e))))
-    ∙ ap (λ (words : List ℕ). set words 1 (getD figures 1 0)) (set-getD figures 0 0)
-    ∙ set-getD figures 1 0
+    put ∙ ap (figuresPut figures) (left-refused replayed refused) ∙ ap (λ (words : List ℕ). set words 1 (getD figures 1 0)) (set-getD figures 0 0) ∙ set-getD figures 1 0

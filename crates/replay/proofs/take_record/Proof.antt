@@ -1,10 +1,13 @@
-use mathlib.Core.Path.{_∙_, sym, ap}
+use mathlib.Core.Path.{_≡_, _∙_, sym, ap}
+use mathlib.Core.Bool.{Bool, not}
 use borrow.Author.Needs.{needs}
 use borrow.Author.Tests.{eq-eqb, ne-eqb}
 use Rattle.theory.specs.Figures.{noneAbove}
 use Rattle.driving.specs.Hours.{wheelFigures, wheelLimits}
+use Rattle.replies.specs.declared.Refusal.{Refusal}
 use Rattle.replay.specs.declared.Underway.{Underway}
 use Rattle.replay.specs.declared.Step.{Step}
+use Rattle.replay.specs.Steps.{stepOn, pickStep, stepped}
 use Rattle.replay.proofs.Walking.{judged, past}
 use Rattle.replay.proofs.take_record.Statement.{statement}
 use Rattle.replay.proofs.take_record.Tie as tie
@@ -21,24 +24,25 @@ returns-2 c =
     let regular = stepped .before in
     rw (stepped .step-on .ensures, sym (regular .before .is-odd .ensures) ∙ regular .if1 .left, ne-eqb _ _ (c .if2 .taken))
 
-returns-3 : tie.Need-returns-3
-returns-3 c =
-    let driving = c .before .before .before in
-    let stepped = driving .before .before in
-    let regular = stepped .before in
+-- driving that is not odd: what it comes to, by whether the figures are within their limits
+drives : (c : tie.After-within-limits) {within : Bool} → c .within-limits .result ≡ within →
+    let args = c .before .before .before .before .before .before .before .args in
+    stepped (args .rules) (args .before) (args .k) (args .taken)
+    ≡ pickStep (not within) (Step.Stopped (Refusal.PastLimit (args .k))) (Step.Taken (stepOn (args .rules) (args .before) (args .taken)))
+drives c {within} is =
+    let driving = c .before .before in
+    let next = driving .before .before in
+    let regular = next .before in
     let args = regular .before .before .args in
-    let limits = c .before .within-limits .ensures ∙ ap (λ (u : Underway). noneAbove (wheelFigures (u .figures)) (wheelLimits (args .rules))) (stepped .step-on .ensures) in
-    ap Step.Taken (stepped .step-on .ensures)
-    ∙ sym (judged (args .rules) (args .before) (args .k) (args .taken) (sym (regular .before .is-odd .ensures) ∙ regular .if1 .left) (past (args .rules) (args .before) (args .taken) (eq-eqb _ _ (driving .if2 .left)) (sym limits ∙ c .if3 .taken)))
+    let limits = c .within-limits .ensures ∙ ap (λ (u : Underway). noneAbove (wheelFigures (u .figures)) (wheelLimits (args .rules))) (next .step-on .ensures) in
+    judged (args .rules) (args .before) (args .k) (args .taken) (sym (regular .before .is-odd .ensures) ∙ regular .if1 .left)
+    (past (args .rules) (args .before) (args .taken) (eq-eqb _ _ (driving .if2 .left)) (sym limits ∙ is))
+
+returns-3 : tie.Need-returns-3
+returns-3 c = ap Step.Taken (c .before .before .before .before .before .step-on .ensures) ∙ sym (drives (c .before) (c .if3 .taken))
 
 returns-4 : tie.Need-returns-4
-returns-4 c =
-    let driving = c .before .before .before in
-    let stepped = driving .before .before in
-    let regular = stepped .before in
-    let args = regular .before .before .args in
-    let limits = c .before .within-limits .ensures ∙ ap (λ (u : Underway). noneAbove (wheelFigures (u .figures)) (wheelLimits (args .rules))) (stepped .step-on .ensures) in
-    sym (judged (args .rules) (args .before) (args .k) (args .taken) (sym (regular .before .is-odd .ensures) ∙ regular .if1 .left) (past (args .rules) (args .before) (args .taken) (eq-eqb _ _ (driving .if2 .left)) (sym limits ∙ c .if3 .left)))
+returns-4 c = sym (drives (c .before) (c .if3 .left))
 
 pub take-record-spec : {M : Type 1} → statement M
 take-record-spec =
