@@ -6,7 +6,7 @@ use mathlib.Core.Logic.{_⊎_, ⊎-elim}
 use mathlib.Core.Option.{Option, none, some}
 use Prim.Native.Nat.{ℕ, zero, suc, _+_, _≤_, _<_}
 use native.Mathlib.Omega.{arith}
-use native.Mathlib.Nat.{eq-or-lt-of-le}
+use native.Mathlib.Nat.{add-zero, zero-add, suc-add, eq-or-lt-of-le}
 use lib.Dec.{T, eqb, ltb, lit≤}
 use Rattle.booleans.proofs.Tests.{cases, not-both, some-not-none, T-true, and-l, and-r}
 use Rattle.replies.specs.declared.Reply.{Reply}
@@ -47,6 +47,15 @@ lowest-found fits k (suc n) i low high before here =
     let later : k + 1 ≤ i = ⊎-elim (λ e. absurd (not-both here (rw e at not-k))) (λ l. omega arith) (eq-or-lt-of-le low) in
     rw (not-k, lowest) (lowest-found fits (k + 1) n i later (omega arith) (λ x l h. before x (omega arith) h) here))
     (cases (fits k))
+
+-- numbers that it is not are passed over
+pub lowest-past : (fits : ℕ → Bool) (k m n : ℕ) → NoneBelow fits k (k + m) → lowest fits k (m + n) ≡ lowest fits (k + m) n
+unfolding lowest
+lowest-past fits k zero n none-fits = rw (add-zero k, zero-add n) refl
+lowest-past fits k (suc m) n none-fits =
+    let next : k + 1 + m ≡ k + suc m = omega arith in
+    rw (suc-add m n, none-fits k (omega arith) (omega arith), lowest)
+    (lowest-past fits (k + 1) m n (λ x low high. none-fits x (omega arith) (omega arith)) ∙ ap (λ (i : ℕ). lowest fits i n) next)
 
 -- what a lowest place says: it is one of the numbers, the test holds there and at none before
 pub record Lowest (fits : ℕ → Bool) (k n i : ℕ) : Type 0 where
