@@ -1,4 +1,6 @@
 -- The laws of the map check.
+pub mod Flaws
+pub mod Letters
 pub mod Fields
 pub mod Counts
 pub mod Reaches

@@ -1,5 +1,5 @@
 // The map check: refusals 1 to 8.
-ghost use mathlib.Core.Bool.{true, false};
+ghost use mathlib.Core.Bool.{true, false, _||_};
 ghost use mathlib.Core.Path.{_≡_};
 ghost use Prim.Native.Nat.{_+_, _-_, _≤_, _<_};
 ghost use lib.ListN.{length};
@@ -8,6 +8,7 @@ ghost use Rattle.replies.specs.Told.{succeeded, toldCheck};
 ghost use Rattle.roadmap.specs.Format.{HasSizes, junctionCount, roadFrom};
 ghost use Rattle.mapcheck.specs.Links.{MapLinks};
 ghost use Rattle.mapcheck.specs.Due.{note, MapDue};
+ghost use Rattle.mapcheck.specs.Lettered.{badWord, Lettered};
 ghost use Rattle.mapcheck.specs.Found.{found, HeaderSays, lateTests, contentTests, partTests};
 ghost use Rattle.mapcheck.specs.MapCheck.{outside, oversizeCounts, mapTests, chainingTests, badPlace, badJunctionFields, badJunction, badStretch, badNext, badRoadFields, badRoad, brokenChain, badLetterAt};
 use replies::Check;
@@ -140,7 +141,7 @@ fn letter_is_bad(letter: u8) -> bool
 }
 
 // The lowest offset, from `from` on, of a byte that is no letter.
-fn bad_lettering(map: &[u8], from: usize) -> Found
+fn bad_letter(map: &[u8], from: usize) -> Found
     requires { ⌜ from ≤ length (now map) ⌝ }
     ensures { λ r. ⌜ found r ≡ lowest (badLetterAt (now (map .entry))) from (length (now (map .entry)) - from) ⌝ }
 {
@@ -152,6 +153,65 @@ fn bad_lettering(map: &[u8], from: usize) -> Found
         i += 1;
     }
     Found::Nothing
+}
+
+// Whether one of the eight bytes of two words is no letter. The high bit of each byte tells: it is set already, or the
+// low bits are 0x7F and one more sets it, or they are below 0x20 and 0x9F less them has it set. No sum or difference
+// leaves its byte.
+fn pair_is_bad(first: u32, second: u32) -> bool
+    ensures { λ r. ⌜ r ≡ badWord first || badWord second ⌝ }
+{
+    let bytes = (first as u64) + (second as u64) * 0x1_0000_0000;
+    let low = bytes & 0x7F7F_7F7F_7F7F_7F7F;
+    let above = low + 0x0101_0101_0101_0101;
+    let below = 0x9F9F_9F9F_9F9F_9F9F - low;
+    (bytes | above | below) & 0x8080_8080_8080_8080 != 0
+}
+
+fn word_is_bad(word: u32) -> bool
+    ensures { λ r. ⌜ r ≡ badWord word ⌝ }
+{
+    pair_is_bad(word, word)
+}
+
+// Past the words of letters from `from` on, two at a time: one load and one test for eight bytes.
+fn past_pairs(map: &[u8], from: usize) -> usize
+    requires { ⌜ from ≤ length (now map) ⌝ }
+    ensures { λ r. ⌜ Lettered (now (map .entry)) from r ⌝ }
+{
+    let mut i = from;
+    while 8 <= map.len() - i {
+        if pair_is_bad(words::word(map, i), words::word(map, i + 4)) {
+            return i;
+        }
+        i += 8;
+    }
+    i
+}
+
+// Past the word at `from`, where it has letters only.
+fn past_word(map: &[u8], from: usize) -> usize
+    requires { ⌜ from ≤ length (now map) ⌝ }
+    ensures { λ r. ⌜ Lettered (now (map .entry)) from r ⌝ }
+{
+    if map.len() - from < 4 {
+        return from;
+    }
+    if word_is_bad(words::word(map, from)) {
+        return from;
+    }
+    from + 4
+}
+
+// The same as `bad_letter`, which is left to look from the first word with a bad byte on, or through the tail of up to
+// three bytes.
+fn bad_lettering(map: &[u8], from: usize) -> Found
+    requires { ⌜ from ≤ length (now map) ⌝ }
+    ensures { λ r. ⌜ found r ≡ lowest (badLetterAt (now (map .entry))) from (length (now (map .entry)) - from) ⌝ }
+{
+    let pair = past_pairs(map, from);
+    let word = past_word(map, pair);
+    bad_letter(map, word)
 }
 
 // The header's first count that is out of range, by its offset.
