@@ -36,6 +36,11 @@ def letter(offset, value):
     return bytes(b)
 
 
+def named(letters):
+    """One junction without roads: the names begin at offset 32."""
+    return Map([[0, 0, 0, 1]], [], letters).bytes()
+
+
 FIRST, PARK, START, LENGTH = range(4)
 FROM, TO, METRES, SPEED, NEXT = range(5)
 T = map_t().bytes()
@@ -131,6 +136,14 @@ check("letter 0x7E", letter(132, 0x7E), "0 0 0")
 check("letter 0x7F", letter(132, 0x7F), "8 132 0")
 check("letter 0xFF that no name uses", Map([[0, 0, 0, 1]], [], b"x\xff").bytes(), "8 33 0")
 check("two bad letters: the lowest", letter(130, 0)[:132] + b"\x00", "8 130 0")
+for length in range(1, 10):
+    letters = b"~ ~ ~ ~ ~"[:length]
+    check(f"{length} letters", named(letters), "0 0 0")
+    for place in range(length):
+        bad = [b"\x00", b"\x1f", b"\x7f", b"\x80"][(length + place) % 4]
+        check(f"{length} letters, the one at {place} bad", named(letters[:place] + bad + letters[place + 1 :]), f"8 {32 + place} 0")
+check("bad letters at the ends of two words: the lower", named(b"abc\x80efg\x00ij"), "8 35 0")
+check("bad letters at the starts of a word and of the tail: the lower", named(b"abcd\xfffgh\x1f"), "8 36 0")
 check("broken chain and bad letter: the chain", road(1, NEXT, 0)[:-1] + b"\x7f", "7 3 0")
 
 # --- order check -----------------------------------------------------------------------------

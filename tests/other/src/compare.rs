@@ -2,6 +2,7 @@
 
 use crate::case_probes::probes;
 use crate::laws::obeyed;
+use crate::lettering;
 use crate::make::random::Random;
 use crate::make::{case, Case};
 use crate::operations::Operations;
@@ -30,7 +31,7 @@ pub fn compare(
 }
 
 fn compare_special(trusted: &Operations, tried: &Operations) -> Result<u64, Difference> {
-    let calls = special::probes();
+    let calls = [special::probes(), lettering::probes()].concat();
     for probe in &calls {
         compare_probe(trusted, tried, probe).map_err(|text| Difference { case: 0, text })?;
     }

@@ -5,6 +5,7 @@ pub mod chains;
 pub mod compare;
 pub mod laws;
 pub mod lent;
+pub mod lettering;
 pub mod listing;
 pub mod make;
 pub mod map;

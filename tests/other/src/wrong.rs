@@ -93,7 +93,7 @@ fn other_copies() -> Vec<WrongCopy> {
     ]
 }
 
-fn check_copies() -> [WrongCopy; 3] {
+fn check_copies() -> [WrongCopy; 7] {
     let with_map_check = |name, check_map| WrongCopy {
         name,
         operations: Operations {
@@ -104,6 +104,10 @@ fn check_copies() -> [WrongCopy; 3] {
     [
         with_map_check("misfit-tells-length-seen", misfit_tells_length_seen),
         with_map_check("one-junction-too-many", one_junction_too_many),
+        with_map_check("first-letter-of-a-word-unseen", first_letter_unseen),
+        with_map_check("control-character-below-space", control_below_space),
+        with_map_check("bad-letter-told-by-its-word", told_by_its_word),
+        with_map_check("letters-behind-the-words-unseen", letters_behind_unseen),
         WrongCopy {
             name: "order-rules-after-trip",
             operations: Operations {
@@ -444,6 +448,43 @@ fn one_junction_too_many(map: &[u8]) -> Reply {
     let mut largest = map.to_vec();
     put_word(&mut largest, 4, MOST_JUNCTIONS);
     check_map(&largest)
+}
+
+/// Judges the map with a letter in place of each name byte for which `unseen` holds of its offset among the names, how
+/// many there are, and itself.
+fn check_without(map: &[u8], unseen: fn(usize, usize, u8) -> bool) -> Reply {
+    if check_map(map).number != BAD_LETTERING {
+        return check_map(map);
+    }
+    let mut judged = map.to_vec();
+    let count = word(map, 12) as usize;
+    let names = map.len() - count;
+    for (offset, byte) in judged[names..].iter_mut().enumerate() {
+        if unseen(offset, count, *byte) {
+            *byte = b'x';
+        }
+    }
+    check_map(&judged)
+}
+
+fn first_letter_unseen(map: &[u8]) -> Reply {
+    check_without(map, |offset, _, _| offset.is_multiple_of(4))
+}
+
+fn control_below_space(map: &[u8]) -> Reply {
+    check_without(map, |_, _, byte| byte == 0x1F)
+}
+
+fn letters_behind_unseen(map: &[u8]) -> Reply {
+    check_without(map, |offset, count, _| offset >= count - count % 4)
+}
+
+fn told_by_its_word(map: &[u8]) -> Reply {
+    let reply = check_map(map);
+    match reply.number {
+        BAD_LETTERING => Reply::refused(BAD_LETTERING, reply.place - reply.place % 4),
+        _ => reply,
+    }
 }
 
 fn order_rules_after_trip(bytes: &[u8], junctions: u32) -> Reply {

@@ -5,14 +5,15 @@ use std::collections::BTreeSet;
 use crate::case_probes::ample_plan;
 use crate::compare::marks;
 use crate::laws::obeyed;
+use crate::lettering;
 use crate::make::practice::{draw, practice_map, USUAL_START};
 use crate::make::{case, Case};
 use crate::mapcheck::check_map;
 use crate::moves::{State, Trip};
 use crate::operations::DOCUMENT;
 use crate::planning::{reachable_states, undominated, Document};
-use crate::probe::answer;
-use crate::reply::Reply;
+use crate::probe::{answer, Probe};
+use crate::reply::{Reply, BAD_JUNCTION, BAD_LETTERING};
 use crate::sheet::sheet_bytes;
 use crate::special;
 use crate::words::word;
@@ -168,4 +169,26 @@ pub fn special_calls_have_the_replies_meant() {
     let (operation, number, labels) = replies[expected.len()];
     assert_eq!((operation, number), ("plan", 0));
     assert!(labels > 8);
+}
+
+pub fn letterings_have_a_bad_byte_at_every_place() {
+    let mut found = BTreeSet::new();
+    for probe in lettering::probes() {
+        if let Probe::CheckMap { map } = &probe {
+            let name_bytes = word(map, 12) as usize;
+            let reply = answer(&DOCUMENT, &probe).reply;
+            let place = reply.place.checked_sub((map.len() - name_bytes) as u64);
+            found.insert((name_bytes, reply.number, place));
+        }
+    }
+    assert!(found.contains(&(0, BAD_JUNCTION, None)));
+    for length in lettering::LENGTHS {
+        assert!(found.contains(&(length, 0, None)));
+        for place in 0..length as u64 {
+            assert!(found.contains(&(length, BAD_LETTERING, Some(place))));
+        }
+    }
+    for place in lettering::LONG - 20..lettering::LONG {
+        assert!(found.contains(&(lettering::LONG, BAD_LETTERING, Some(place as u64))));
+    }
 }
