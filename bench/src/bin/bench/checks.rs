@@ -8,8 +8,8 @@ use bench::maps::NamedMap;
 use other::reply::Reply;
 use other::{mapcheck, retiming};
 
-use crate::table::{brief, grouped, ratio_text, Table};
-use crate::timing::{best_of, nanoseconds_each, ratio, take};
+use bench::table::{brief, grouped, ratio_text, Table};
+use bench::timing::{best_of, nanoseconds_each, ratio, take};
 use differential::LIBRARY;
 
 /// Nanoseconds per road, unless the replies differ.

@@ -3,12 +3,10 @@
 
 mod checks;
 mod planning;
-mod table;
-mod timing;
 
-use std::fs::read_to_string;
 use std::process::ExitCode;
 
+use bench::machine::{load, processor};
 use bench::maps::{grid, practice, NamedMap};
 use bench::trips::Targets;
 use checks::{print_map_checks, print_sheet_checks};
@@ -108,20 +106,4 @@ fn report_growth(extent: &Extent, planners: &mut Planners) -> Result<(), String>
     println!("### Growth with N, ratios\n");
     print_ratios(&timed);
     Ok(())
-}
-
-fn processor() -> String {
-    let all = read_to_string("/proc/cpuinfo").unwrap_or_default();
-    let model = all
-        .lines()
-        .find_map(|line| line.strip_prefix("model name\t: "));
-    model.unwrap_or("unknown processor").to_string()
-}
-
-fn load() -> String {
-    let all = read_to_string("/proc/loadavg").unwrap_or_default();
-    format!(
-        "load average {}",
-        all.split(' ').next().unwrap_or("unknown")
-    )
 }

@@ -11,8 +11,8 @@ use bench::trips::NamedTrip;
 use other::planning::{MOST_LABELS, WORDS_OF_A_LABEL};
 use other::sheet::sheet_bytes;
 
-use crate::table::{brief, grouped, ratio_text, Table};
-use crate::timing::{best_of, nanoseconds_each, ratio, take};
+use bench::table::{brief, grouped, ratio_text, Table};
+use bench::timing::{best_of, nanoseconds_each, ratio, take};
 use differential::LIBRARY;
 
 const LONGEST_PLAN: usize = 100_000;
