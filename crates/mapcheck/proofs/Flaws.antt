@@ -35,9 +35,6 @@ module _ (n others byte : ℕ) (is-byte : byte < 256) where
   abbrev low : ℕ
   low = bitAnd byte 0x7F
 
-  low-at-most : low ≤ 0x7F
-  low-at-most = and-le-r byte 0x7F
-
   low-apart : bitAnd (others * 256 + byte) (repeated (suc n) 0x7F) ≡ lows * 256 + low
   low-apart = and-block 8 others (repeated n 0x7F) byte 0x7F is-byte (lit< tt)
 
@@ -45,18 +42,29 @@ module _ (n others byte : ℕ) (is-byte : byte < 256) where
   above-apart = omega arith
 
   below-apart : repeated (suc n) 0x9F - (lows * 256 + low) ≡ (repeated n 0x9F - lows) * 256 + (0x9F - low)
-  below-apart = omega (arith, low-at-most, and-le-r others (repeated n 0x7F), repeated-le n 0x7F 0x9F (omega arith))
+  below-apart = omega (arith, and-le-r byte 0x7F, and-le-r others (repeated n 0x7F), repeated-le n 0x7F 0x9F (omega arith))
 
-  pub flaws-apart : flaws (suc n) (others * 256 + byte) ≡ flaws n others * 256 + flaws 1 byte
+  above-fits : low + 0x01 < 256
+  above-fits = omega (arith, and-le-r byte 0x7F)
+
+  below-fits : 0x9F - low < 256
+  below-fits = omega arith
+
+  first-fits : bitOr byte (low + 0x01) < 256
+  first-fits = or-lt 8 byte (low + 0x01) is-byte above-fits
+
+  flaws-apart : flaws (suc n) (others * 256 + byte) ≡ flaws n others * 256 + flaws 1 byte
   flaws-apart =
+      let others-first : ℕ = bitOr others (lows + repeated n 0x01) in
+      let byte-first : ℕ = bitOr byte (low + 0x01) in
       rw (
         low-apart,
         above-apart,
         below-apart,
-        or-block 8 others (lows + repeated n 0x01) byte (low + 0x01) is-byte (omega (arith, low-at-most)),
-        or-block 8 (bitOr others (lows + repeated n 0x01)) (repeated n 0x9F - lows) (bitOr byte (low + 0x01)) (0x9F - low) (or-lt 8 byte (low + 0x01) is-byte (omega (arith, low-at-most))) (omega arith),
+        or-block 8 others (lows + repeated n 0x01) byte (low + 0x01) is-byte above-fits,
+        or-block 8 others-first (repeated n 0x9F - lows) byte-first (0x9F - low) first-fits below-fits,
       )
-      (and-block 8 _ (repeated n 0x80) _ 0x80 (or-lt 8 _ (0x9F - low) (or-lt 8 byte (low + 0x01) is-byte (omega (arith, low-at-most))) (omega arith)) (lit< tt))
+      (and-block 8 (bitOr others-first (repeated n 0x9F - lows)) (repeated n 0x80) (bitOr byte-first (0x9F - low)) 0x80 (or-lt 8 byte-first (0x9F - low) first-fits below-fits) (lit< tt))
 
 -- bits joined are none where those of both are none
 or-none : (a b : ℕ) → bitOr a b ≡ 0 → (a ≡ 0) × (b ≡ 0)
