@@ -1,13 +1,16 @@
 //! Maps whose name bytes a check may take several at a time: each length, with bad bytes at each place.
 
+use std::ops::RangeInclusive;
+
 use crate::make::random::Random;
-use crate::map::{Junction, Map, Road};
+use crate::map::Map;
 use crate::probe::Probe;
+use crate::special::{junction_without_roads, round_road};
 
 /// Lengths on both sides of several words, of pairs of words, and with every tail.
-pub const LENGTHS: std::ops::RangeInclusive<usize> = 1..=26;
+pub const LENGTHS: RangeInclusive<usize> = 1..=26;
 /// Bytes next to the letters, at the ends of the halves, and a letter with its high bit set.
-pub const BAD_BYTES: [u8; 7] = [0x00, 0x1F, 0x7F, 0x80, 0x9F, 0xC1, 0xFF];
+const BAD_BYTES: [u8; 7] = [0x00, 0x1F, 0x7F, 0x80, 0x9F, 0xC1, 0xFF];
 /// Neighbours from which a sum or a difference would carry soonest.
 const AROUND: [[u8; 2]; 3] = [[0x20, 0x20], [0x7E, 0x7E], [0x20, 0x7E]];
 /// Long enough for many turns of a loop, with a tail of three.
@@ -33,22 +36,8 @@ pub fn probes() -> Vec<Probe> {
 /// One junction, and one road or none: the names start at a multiple of eight bytes or four behind it.
 fn named_map(names: Vec<u8>, roads: usize) -> Map {
     let mut map = Map {
-        junctions: vec![Junction {
-            first: 0,
-            car_park: 0,
-            name_start: 0,
-            name_length: 1,
-        }],
-        roads: vec![
-            Road {
-                from: 1,
-                to: 1,
-                metres: 1,
-                speed: 80,
-                next: 0,
-            };
-            roads
-        ],
+        junctions: vec![junction_without_roads()],
+        roads: vec![round_road(); roads],
         names,
     };
     map.link_chains();

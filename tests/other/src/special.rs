@@ -162,7 +162,7 @@ fn round_trip_map() -> Map {
     map
 }
 
-fn junction_without_roads() -> Junction {
+pub fn junction_without_roads() -> Junction {
     Junction {
         first: 0,
         car_park: 1,
@@ -172,7 +172,7 @@ fn junction_without_roads() -> Junction {
 }
 
 /// A road of one second from junction 1 to itself.
-fn round_road() -> Road {
+pub fn round_road() -> Road {
     Road {
         from: 1,
         to: 1,
