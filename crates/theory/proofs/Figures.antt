@@ -8,7 +8,7 @@ use native.Mathlib.Nat.{eq-or-lt-of-le}
 use native.Mathlib.Omega.{arith}
 use borrow.Author.Tests.{eq-eqb, ne-eqb, le-leb, lt-leb, le-ltb, leb-true, leb-false}
 use lib.Dec.{T, leb, ltb, eqb, leb→le, le→leb, ltb→lt, lt→ltb, nltb→le, eqb→eq, eqb-refl}
-use lib.ListN.{getD}
+use lib.ListN.{length, getD}
 use Rattle.booleans.proofs.Tests.{cases, T-cases, T-true, and-l, and-r, and-i, or-e, or-l}
 use Rattle.theory.specs.Figures.{noneAbove, sameEach, lexicographic}
 
@@ -103,7 +103,7 @@ rank-last x y =
     at-most : x ≤ y → T (lexicographic (x ∷ []) (y ∷ []))
     at-most h = ⊎-elim (λ (e : x ≡ y). rank-next x y [] [] e tt) (λ (l : x < y). rank-below x y [] [] l) (eq-or-lt-of-le h)
 
--- None above is a preorder, carries over to lists put behind each other and to each place, and ranks no higher.
+-- None above is a preorder, carries over to lists put behind each other, to their first parts and to each place, and ranks no higher.
 pub above-self : (xs : List ℕ) → T (noneAbove xs xs)
 unfolding noneAbove
 above-self [] = tt
@@ -125,6 +125,15 @@ above-both [] (y ∷ ys) ws zs p q = absurd p
 above-both (x ∷ xs) [] ws zs p q = absurd p
 above-both (x ∷ xs) (y ∷ ys) ws zs p q =
     above-more x y (xs ++ ws) (ys ++ zs) (above-head x y xs ys p) (above-both xs ys ws zs (above-tail x y xs ys p) q)
+
+pub above-first : (xs ys ws zs : List ℕ) → length xs ≡ length ys → T (noneAbove (xs ++ ws) (ys ++ zs)) → T (noneAbove xs ys)
+unfolding noneAbove
+above-first [] [] ws zs same t = tt
+above-first [] (y ∷ ys) ws zs same t = absurd (omega arith)
+above-first (x ∷ xs) [] ws zs same t = absurd (omega arith)
+above-first (x ∷ xs) (y ∷ ys) ws zs same t =
+    above-more x y xs ys (above-head x y (xs ++ ws) (ys ++ zs) t)
+    (above-first xs ys ws zs (omega arith) (above-tail x y (xs ++ ws) (ys ++ zs) t))
 
 pub above-at : (xs ys : List ℕ) (i : ℕ) → T (noneAbove xs ys) → getD xs i 0 ≤ getD ys i 0
 unfolding noneAbove
