@@ -93,7 +93,7 @@ module _ (map order sheet : List ℕ) (answer : Timing) (told : toldTiming answe
       let passed = rw told at done in
       (reached-by map order sheet passed, audited-holds map order sheet passed, ap (λ (r : Reply). r .arrival) (told ∙ audited-told map order sheet passed))
 
-  -- "Arrival less departure is the sum of its road times, breaks and rests."
+  -- "Arrival less departure is the sum of its road times, breaks and rests." A part "counts as a break" (document 02, P5).
   pub audit-seconds : toldTiming answer .arrival ≡ orderOf order .departure .0 + totalSeconds (tripFrom map order) (movesRead sheet)
   unfolding tripOf
   audit-seconds = audit-holds .2 ∙ leads-clock (tripFrom map order) (audit-holds .1 .journey .leads)
@@ -120,7 +120,7 @@ module _ {map map′ : List ℕ} {answer : Check} (made : ChainMaking map map′
   pub chain-making-passes : toldCheck answer .number ≡ 0 → AcceptedMap map′
   chain-making-passes = chained-passes made
 
--- Document 02, P3: "We want them replayed from a trace".
+-- Document 02, P3: "We want them replayed from a trace"; P5: "The mark joins the lent figures and starts as lent."
 module _ {trace : List ℕ} {rules : Rules} {before after : Figures} {answer : Replaying} (replayed : Replayed trace rules before after answer) where
   pub replay-replies : RepliesBy (replayTests trace rules before) (toldReplaying answer)
   replay-replies = replies-by (replayTests trace rules before) _ refl tt (replayed .reply)
@@ -138,7 +138,7 @@ module _ {trace : List ℕ} {rules : Rules} {before after : Figures} {answer : R
     pub replay-updates : after ≡ upToDate rules (recordsOf trace) before
     replay-updates = left-accepted replayed done
 
-    -- the figures that it leaves are such as an order, or the next trace, may start with
+    -- the figures that it leaves are such as the next trace, or without the mark an order, may start with
     pub replay-sound : badFigures after rules ≡ none
     replay-sound = sound-left replayed done
 
@@ -182,7 +182,7 @@ module _ {map order sheet out out′ : List ℕ} {answer : Timing} (retimed : Re
     pub retiming-keeps : drop (sheetNeeded (movesOn out′)) out′ ≡ drop (sheetNeeded (movesOn out′)) out
     retiming-keeps = rest-retimed retimed done
 
-    -- "Arrival less departure is the sum of its road times, breaks and rests."
+    -- "Arrival less departure is the sum of its road times, breaks and rests." A part "counts as a break" (document 02, P5).
     pub retiming-seconds : toldTiming answer .arrival ≡ orderOf order .departure .0 + totalSeconds (tripFrom map order) (movesRead out′)
     unfolding tripOf
     retiming-seconds = retiming-writes .2 ∙ leads-clock (tripFrom map order) (retiming-writes .1 .journey .leads)
@@ -229,7 +229,7 @@ module _ {map order words words′ sheet sheet′ : List ℕ} {answer : Planning
   pub plan-obeys : Plans answer → (t : State) × HoldsJourney trip sheet′ t × (toldPlan answer .arrival ≡ t .clock .0)
   plan-obeys plans = let w = wrote-plan plans in (w .state, holds-journey w, ap (λ (r : Reply). r .arrival) (w .told))
 
-  -- "Arrival less departure is the sum of its road times, breaks and rests."
+  -- "Arrival less departure is the sum of its road times, breaks and rests." A part "counts as a break" (document 02, P5).
   pub plan-seconds : Plans answer → toldPlan answer .arrival ≡ orderOf order .departure .0 + totalSeconds trip (movesRead sheet′)
   unfolding tripOf
   plan-seconds plans = plan-obeys plans .2 ∙ leads-clock trip (plan-obeys plans .1 .journey .leads)
@@ -279,7 +279,7 @@ module _ {map order words words′ sheet sheet′ : List ℕ} {answer : Planning
 
 -- "Take any two planning runs A and B with accepted maps and orders that share the junctions, the numbers and ends of the roads, source, target,
 -- departure and latest arrival. Suppose that in B no road takes longer, no limit is lower, no break or rest is longer, no starting figure is
--- higher, and each car park of A is one. Whenever A plans,"
+-- higher, and each car park of A is one." Document 02, P5: "where A has a split so has B, with parts no longer than A's." "Whenever A plans,"
 module _ {mapA orderA mapB orderB : List ℕ} (accepted-a : AcceptedRun mapA orderA) (accepted-b : AcceptedRun mapB orderB) (easier : EasierRun mapB orderB mapA orderA)
     {wordsA wordsA′ sheetA sheetA′ : List ℕ} {answerA : Planning} (run-a : Planned mapA orderA wordsA wordsA′ sheetA sheetA′ answerA) (plans-a : Plans answerA) where
   under-b : Afresh mapB orderB sheetA′ answerA

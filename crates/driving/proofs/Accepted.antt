@@ -1,6 +1,6 @@
--- An order passes exactly when its length is 40 and its words keep the rules; the facts that later layers use. Assumes nothing.
+-- An order passes exactly when its length is 48 and its words keep the rules; the facts that later layers use. Assumes nothing.
 use mathlib.Core.Path.{_≡_, refl}
-use mathlib.Core.Bool.{true, false}
+use mathlib.Core.Bool.{Bool, true, false, not, _||_}
 use mathlib.Core.List.{List, [], _∷_, _++_}
 use mathlib.Core.Logic.{⊎-elim}
 use mathlib.Core.Option.{none}
@@ -8,13 +8,14 @@ use Prim.Native.Nat.{ℕ, _≤_}
 use lib.Dec.{lit≤, eqb}
 use lib.ListN.{length}
 use borrow.Author.Tests.{le-leb, leb-true, eq-eqb, eqb-true}
-use Rattle.booleans.proofs.Tests.{cases, some-not-none}
+use Rattle.booleans.proofs.Tests.{cases, not-both, some-not-none}
 use Rattle.replies.specs.First.{NoneFits}
 use Rattle.replies.proofs.First.{none-under}
 use Rattle.driving.specs.declared.Order.{Order}
 use Rattle.driving.specs.declared.Figures.{Figures}
 use Rattle.driving.specs.declared.Rules.{Rules}
-use Rattle.driving.specs.Order.{Rule, firstBroken, europeanRules, limitRules, endRules, figureRules, badOrder, badRules, badFigures, badTrip, orderBytes, orderOf, orderTests}
+use Rattle.driving.specs.Order.{Rule, firstBroken, europeanRules, partTaken, limitRules, endRules, figureRules, badOrder, badRules, badFigures, badTrip, orderBytes, orderOf, orderTests}
+use Rattle.driving.specs.Hours.{hasSplit}
 use Rattle.driving.specs.Accepted.{SoundRules, SoundFigures, AcceptedOrder}
 
 -- every rule of the list is kept
@@ -49,6 +50,15 @@ kept-both : (rs more : List Rule) → AllKept rs → AllKept more → AllKept (r
 kept-both [] more first second = second
 kept-both (r ∷ rs) more first second = (first .0, kept-both rs more (first .1) second)
 
+-- what a split asks is a rule of its own
+asked : (split kept : Bool) → (not split || kept) ≡ true → split ≡ true → kept ≡ true
+asked true kept e is = e
+asked false kept e is = absurd (not-both is refl)
+
+granted : (split kept : Bool) → (split ≡ true → kept ≡ true) → (not split || kept) ≡ true
+granted true kept by = by refl
+granted false kept by = refl
+
 -- refusal 10 does not fit exactly the sound rules
 pub rules-sound : (r : Rules) → badRules r ≡ none → SoundRules r
 unfolding badRules
@@ -61,17 +71,34 @@ rules-sound r e =
       shift-limit-high = leb-true _ _ (search kept);
       pauses-rise = leb-true _ _ (search kept);
       rest-high = leb-true _ _ (search kept);
+      first-low = λ split. leb-true _ _ (asked (hasSplit r) _ (search kept) split);
+      first-high = leb-true _ _ (search kept);
+      second-low = λ split. leb-true _ _ (asked (hasSplit r) _ (search kept) split);
+      second-high = leb-true _ _ (search kept);
     }
 
 pub sound-rules-pass : (r : Rules) → SoundRules r → badRules r ≡ none
 unfolding badRules
 sound-rules-pass r s =
+    let first : partTaken r (r .«first_part» .0) ≡ true = granted _ _ (λ split. le-leb _ _ (s .first-low split)) in
+    let second : partTaken r (r .«second_part» .0) ≡ true = granted _ _ (λ split. le-leb _ _ (s .second-low split)) in
     none-broken (limitRules r)
-    (le-leb _ _ (s .spell-limit-low), (le-leb _ _ (s .break-low), (le-leb _ _ (s .limits-rise), (le-leb _ _ (s .shift-limit-high), (le-leb _ _ (s .pauses-rise), (le-leb _ _ (s .rest-high), tt))))))
+    (le-leb _ _ (s .spell-limit-low), (le-leb _ _ (s .break-low), (le-leb _ _ (s .limits-rise), (le-leb _ _ (s .shift-limit-high), (le-leb _ _ (s .pauses-rise), (le-leb _ _ (s .rest-high), (first, (le-leb _ _ (s .first-high), (second, (le-leb _ _ (s .second-high), tt))))))))))
 
 pub european-sound : SoundRules europeanRules
 european-sound =
-    record { spell-limit-low = lit≤ tt; limits-rise = lit≤ tt; shift-limit-high = lit≤ tt; break-low = lit≤ tt; pauses-rise = lit≤ tt; rest-high = lit≤ tt }
+    record {
+      spell-limit-low = lit≤ tt;
+      limits-rise = lit≤ tt;
+      shift-limit-high = lit≤ tt;
+      break-low = lit≤ tt;
+      pauses-rise = lit≤ tt;
+      rest-high = lit≤ tt;
+      first-low = λ split. lit≤ tt;
+      first-high = lit≤ tt;
+      second-low = λ split. lit≤ tt;
+      second-high = lit≤ tt;
+    }
 
 -- the starting figures' part of refusal 11
 figures-kept : (f : Figures) (r : Rules) → AllKept (figureRules f r) → SoundFigures f r
@@ -121,7 +148,7 @@ order-length bytes e =
     (λ (other : eqb (length bytes) orderBytes ≡ false). absurd (some-not-none (simp other at e)))
     (cases (eqb (length bytes) orderBytes))
 
--- the order check passes exactly the orders of 40 bytes whose words keep every rule
+-- the order check passes exactly the orders of 48 bytes whose words keep every rule
 pub order-accepted : (junctions : ℕ) (bytes : List ℕ) → NoneFits (orderTests junctions bytes) → AcceptedOrder junctions (orderOf bytes)
 order-accepted junctions bytes passed = order-sound junctions (orderOf bytes) (none-under 10 (orderTests junctions bytes) passed) (none-under 11 (orderTests junctions bytes) passed)
 

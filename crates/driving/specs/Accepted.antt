@@ -1,10 +1,13 @@
 -- What holds of the numbers of an accepted order. Assumes nothing.
 use Prim.Native.Nat.{ℕ, _≤_}
+use mathlib.Core.Path.{_≡_}
+use mathlib.Core.Bool.{true}
 use Rattle.driving.specs.declared.Order.{Order}
 use Rattle.driving.specs.declared.Figures.{Figures}
 use Rattle.driving.specs.declared.Rules.{Rules}
+use Rattle.driving.specs.Hours.{hasSplit}
 
--- 1 ≤ spell limit ≤ shift limit ≤ 1,000,000 and 1 ≤ break ≤ rest ≤ 1,000,000
+-- 1 ≤ spell limit ≤ shift limit ≤ 1,000,000 and 1 ≤ break ≤ rest ≤ 1,000,000; with a split each part is 1 up to the break
 pub record SoundRules (r : Rules) : Type 0 where
   pub spell-limit-low : 1 ≤ r .«spell_limit» .0
   pub limits-rise : r .«spell_limit» .0 ≤ r .«shift_limit» .0
@@ -12,6 +15,10 @@ pub record SoundRules (r : Rules) : Type 0 where
   pub break-low : 1 ≤ r .«break_time» .0
   pub pauses-rise : r .«break_time» .0 ≤ r .«rest_time» .0
   pub rest-high : r .«rest_time» .0 ≤ 1000000
+  pub first-low : hasSplit r ≡ true → 1 ≤ r .«first_part» .0
+  pub first-high : r .«first_part» .0 ≤ r .«break_time» .0
+  pub second-low : hasSplit r ≡ true → 1 ≤ r .«second_part» .0
+  pub second-high : r .«second_part» .0 ≤ r .«break_time» .0
 
 -- spell is at most its limit and at most shift, and shift at most its limit
 pub record SoundFigures (f : Figures) (r : Rules) : Type 0 where

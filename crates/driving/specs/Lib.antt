@@ -1,4 +1,5 @@
 pub mod Order
 pub mod Hours
 pub mod Accepted
+pub mod Compared
 pub mod Steps

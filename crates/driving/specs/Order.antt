@@ -1,6 +1,6 @@
--- The order: its ten words, the rules that they keep, and the refusals 9 to 11. Assumes nothing.
+-- The order: its twelve words, the rules that they keep, and the refusals 9 to 11. Assumes nothing.
 use Prim.Native.Nat.{ℕ, _*_}
-use mathlib.Core.Bool.{Bool, true, false, not}
+use mathlib.Core.Bool.{Bool, true, false, not, _||_}
 use mathlib.Core.List.{List, [], _∷_, _++_}
 use mathlib.Core.Option.{Option, none, some}
 use lib.Dec.{leb, eqb}
@@ -10,6 +10,7 @@ use Rattle.replies.specs.First.{Test, _at_, placed}
 use Rattle.driving.specs.declared.Order.{Order}
 use Rattle.driving.specs.declared.Figures.{Figures}
 use Rattle.driving.specs.declared.Rules.{Rules}
+use Rattle.driving.specs.Hours.{hasSplit}
 
 -- the European figures
 abbrev pub europeanRules : Rules
@@ -19,17 +20,20 @@ europeanRules =
       «break_time» = record { 0 = 2700 };
       «shift_limit» = record { 0 = 32400 };
       «rest_time» = record { 0 = 39600 };
+      «first_part» = record { 0 = 900 };
+      «second_part» = record { 0 = 1800 };
     }
 
 -- the bytes of an order
 abbrev pub orderBytes : ℕ
-orderBytes = 40
+orderBytes = 48
 
 -- word k of an order
 abbrev pub orderWord : List ℕ → ℕ → ℕ
 orderWord bytes k = wordAt bytes (4 * k)
 
--- 0 source, 1 target, 2 departure, 3 latest arrival, 4 spell, 5 shift, 6 spell limit, 7 break, 8 shift limit, 9 rest
+-- 0 source, 1 target, 2 departure, 3 latest arrival, 4 spell, 5 shift, 6 spell limit, 7 break, 8 shift limit, 9 rest,
+-- 10 first part, 11 second part; the start carries no mark
 abbrev pub orderOf : List ℕ → Order
 orderOf bytes =
     record {
@@ -37,13 +41,16 @@ orderOf bytes =
       target = orderWord bytes 1;
       departure = record { 0 = orderWord bytes 2 };
       latest = record { 0 = orderWord bytes 3 };
-      figures = record { spell = record { 0 = orderWord bytes 4 }; shift = record { 0 = orderWord bytes 5 } };
+      figures =
+          record { spell = record { 0 = orderWord bytes 4 }; shift = record { 0 = orderWord bytes 5 }; marked = false };
       rules =
           record {
             «spell_limit» = record { 0 = orderWord bytes 6 };
             «break_time» = record { 0 = orderWord bytes 7 };
             «shift_limit» = record { 0 = orderWord bytes 8 };
             «rest_time» = record { 0 = orderWord bytes 9 };
+            «first_part» = record { 0 = orderWord bytes 10 };
+            «second_part» = record { 0 = orderWord bytes 11 };
           };
     }
 
@@ -62,7 +69,12 @@ unfoldable pub firstBroken : List Rule → Option ℕ
 firstBroken [] = none
 firstBroken (r ∷ rs) = elim (r .kept) [ true ↦ firstBroken rs | false ↦ some (r .word) ]
 
--- words 6 to 9: 1 ≤ spell limit ≤ shift limit ≤ 1,000,000 and 1 ≤ break ≤ rest ≤ 1,000,000
+-- both parts zero means no split; otherwise a part is at least 1
+abbrev pub partTaken : Rules → ℕ → Bool
+partTaken r part = not (hasSplit r) || leb 1 part
+
+-- words 6 to 11: 1 ≤ spell limit ≤ shift limit ≤ 1,000,000 and 1 ≤ break ≤ rest ≤ 1,000,000; with a split each part is 1 up to the break,
+-- and a lone zero is charged itself
 abbrev pub limitRules : Rules → List Rule
 limitRules r =
     (6 charged leb 1 (r .«spell_limit» .0))
@@ -71,6 +83,10 @@ limitRules r =
     ∷ (8 charged leb (r .«shift_limit» .0) 1000000)
     ∷ (9 charged leb (r .«break_time» .0) (r .«rest_time» .0))
     ∷ (9 charged leb (r .«rest_time» .0) 1000000)
+    ∷ (10 charged partTaken r (r .«first_part» .0))
+    ∷ (10 charged leb (r .«first_part» .0) (r .«break_time» .0))
+    ∷ (11 charged partTaken r (r .«second_part» .0))
+    ∷ (11 charged leb (r .«second_part» .0) (r .«break_time» .0))
     ∷ []
 
 -- words 0 to 3: source and target are 1 to J, and departure ≤ latest ≤ 2,000,000,000
@@ -92,11 +108,11 @@ figureRules f r =
     ∷ (5 charged leb (f .shift .0) (r .«shift_limit» .0))
     ∷ []
 
--- refusal 9, bad order: not 40 bytes
+-- refusal 9, bad order: not 48 bytes
 abbrev pub badOrder : List ℕ → Option ℕ
 badOrder bytes = placed (not (eqb (length bytes) orderBytes)) (length bytes)
 
--- refusal 10, bad rules: words 6 to 9
+-- refusal 10, bad rules: words 6 to 11
 unfoldable pub badRules : Rules → Option ℕ
 badRules r = firstBroken (limitRules r)
 

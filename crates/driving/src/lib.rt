@@ -8,8 +8,8 @@ ghost use Rattle.theory.specs.Figures.{noneAbove};
 ghost use Rattle.replies.specs.Told.{succeeded, toldCheck};
 ghost use Rattle.replies.specs.First.{_at_, firstOf};
 ghost use Rattle.driving.specs.Steps.{firstRefused, ruledBy};
-ghost use Rattle.driving.specs.Order.{europeanRules, orderBytes, orderOf, badRules, badEnds, badFigures, badTrip, orderTests};
-ghost use Rattle.driving.specs.Hours.{wheelFigures, highestLimits, drivenOn, firstPause, lastPause, pauseSeconds, cleared};
+ghost use Rattle.driving.specs.Order.{europeanRules, orderBytes, orderOf, partTaken, badRules, badEnds, badFigures, badTrip, orderTests};
+ghost use Rattle.driving.specs.Hours.{wheelFigures, highestLimits, unmarked, drivenOn, firstPause, lastPause, hasSplit, pauseSeconds, allowsPause, cleared};
 use replies::Check;
 use replies::Refusal;
 use seconds::Clock;
@@ -21,6 +21,9 @@ pub struct Rules {
     pub break_time: Clock,
     pub shift_limit: Wheel,
     pub rest_time: Clock,
+    // The parts that together stand for a break, both 0 where the rules have no split.
+    pub first_part: Clock,
+    pub second_part: Clock,
 }
 
 impl Rules {
@@ -33,14 +36,22 @@ impl Rules {
 
     pub const EUROPEAN_REST_TIME: Clock = Clock(39600);
 
+    pub const EUROPEAN_FIRST_PART: Clock = Clock(900);
+
+    pub const EUROPEAN_SECOND_PART: Clock = Clock(1800);
+
     // The kinds of pause, as moves number them.
     pub const BREAK: u32 = 2;
 
     pub const REST: u32 = 3;
 
+    pub const FIRST_PART: u32 = 4;
+
+    pub const SECOND_PART: u32 = 5;
+
     pub const FIRST_PAUSE: u32 = Rules::BREAK;
 
-    pub const LAST_PAUSE: u32 = Rules::REST;
+    pub const LAST_PAUSE: u32 = Rules::SECOND_PART;
 
     pub fn european() -> Rules
         ensures { λ r. ⌜ r ≡ europeanRules ⌝ }
@@ -50,14 +61,24 @@ impl Rules {
             break_time: Rules::EUROPEAN_BREAK_TIME,
             shift_limit: Rules::EUROPEAN_SHIFT_LIMIT,
             rest_time: Rules::EUROPEAN_REST_TIME,
+            first_part: Rules::EUROPEAN_FIRST_PART,
+            second_part: Rules::EUROPEAN_SECOND_PART,
         }
     }
 }
 
-// Wheel time since the last pause of any kind, and since the last rest.
+// Wheel time since the last pause that cleared it, and since the last rest; whether a first part waits for its second.
 pub struct Figures {
     pub spell: Wheel,
     pub shift: Wheel,
+    pub marked: bool,
+}
+
+// The mark as a figure, of which the lower one is better.
+pub fn unmarked(figures: Figures) -> u32
+    ensures { λ r. ⌜ r ≡ unmarked figures ⌝ }
+{
+    if figures.marked { 0 } else { 1 }
 }
 
 // The figures after driving on: one road time is added to each.
@@ -68,7 +89,18 @@ pub fn driven(figures: Figures, seconds: u32) -> Figures
     Figures {
         spell: Wheel(figures.spell.0 + seconds),
         shift: Wheel(figures.shift.0 + seconds),
+        marked: figures.marked,
     }
+}
+
+// Both parts zero means no split.
+pub fn has_split(rules: Rules) -> bool
+    ensures { λ r. ⌜ r ≡ hasSplit rules ⌝ }
+{
+    if rules.first_part.0 != 0 {
+        return true;
+    }
+    rules.second_part.0 != 0
 }
 
 // How long a pause of this kind takes.
@@ -77,28 +109,59 @@ pub fn pause_time(rules: Rules, kind: u32) -> Clock
     ensures { λ r. ⌜ r .0 ≡ pauseSeconds rules kind ⌝ }
 {
     if kind == Rules::BREAK {
-        rules.break_time
-    } else {
-        rules.rest_time
+        return rules.break_time;
     }
+    if kind == Rules::REST {
+        return rules.rest_time;
+    }
+    if kind == Rules::FIRST_PART {
+        return rules.first_part;
+    }
+    rules.second_part
 }
 
-// The figures after a pause of this kind: a break clears spell, and a rest clears shift too.
+// Whether the rules have a pause of this kind for these figures: a second part needs the mark.
+pub fn allows_pause(rules: Rules, figures: Figures, kind: u32) -> bool
+    requires { ⌜ (firstPause ≤ kind) × (kind ≤ lastPause) ⌝ }
+    ensures { λ r. ⌜ r ≡ allowsPause rules figures kind ⌝ }
+{
+    if kind < Rules::FIRST_PART {
+        return true;
+    }
+    if !has_split(rules) {
+        return false;
+    }
+    if kind == Rules::FIRST_PART {
+        return true;
+    }
+    figures.marked
+}
+
+// The figures after a pause of this kind: each but a first part clears spell and the mark, and a rest clears shift too.
 pub fn cleared(figures: Figures, kind: u32) -> Figures
     requires { ⌜ (firstPause ≤ kind) × (kind ≤ lastPause) ⌝ }
     ensures { λ r. ⌜ r ≡ cleared kind figures ⌝ }
 {
+    let spell = figures.spell;
     let shift = figures.shift;
-    if kind == Rules::BREAK {
-        Figures {
-            spell: Wheel(0),
-            shift,
-        }
-    } else {
-        Figures {
+    if kind == Rules::REST {
+        return Figures {
             spell: Wheel(0),
             shift: Wheel(0),
-        }
+            marked: false,
+        };
+    }
+    if kind == Rules::FIRST_PART {
+        return Figures {
+            spell,
+            shift,
+            marked: true,
+        };
+    }
+    Figures {
+        spell: Wheel(0),
+        shift,
+        marked: false,
     }
 }
 
@@ -113,7 +176,7 @@ pub struct Order {
 }
 
 impl Order {
-    pub const BYTES: usize = 40;
+    pub const BYTES: usize = 48;
 }
 
 fn read_figures(bytes: &[u8]) -> Figures
@@ -123,6 +186,7 @@ fn read_figures(bytes: &[u8]) -> Figures
     Figures {
         spell: Wheel(words::word(bytes, 16)),
         shift: Wheel(words::word(bytes, 20)),
+        marked: false,
     }
 }
 
@@ -135,10 +199,12 @@ fn read_rules(bytes: &[u8]) -> Rules
         break_time: Clock(words::word(bytes, 28)),
         shift_limit: Wheel(words::word(bytes, 32)),
         rest_time: Clock(words::word(bytes, 36)),
+        first_part: Clock(words::word(bytes, 40)),
+        second_part: Clock(words::word(bytes, 44)),
     }
 }
 
-// The order that its forty bytes spell.
+// The order that its bytes spell.
 pub fn read_order(bytes: &[u8]) -> Order
     requires { ⌜ length (now bytes) ≡ orderBytes ⌝ }
     ensures { λ r. ⌜ r ≡ orderOf (now (bytes .entry)) ⌝ }
@@ -174,7 +240,17 @@ fn ruled(before: Check, kept: bool, why: Refusal) -> Check
     }
 }
 
-// The rules alone: words 6 to 9 of an order, or rules that stand in none.
+// With a split a part takes time.
+fn part_taken(rules: Rules, part: u32) -> bool
+    ensures { λ r. ⌜ r ≡ partTaken rules part ⌝ }
+{
+    if has_split(rules) {
+        return 1 <= part;
+    }
+    true
+}
+
+// The rules alone: words 6 to 11 of an order, or rules that stand in none.
 pub fn check_rules(rules: Rules) -> Check
     ensures { λ r. ⌜ toldCheck r ≡ firstOf ((10 at badRules rules) ∷ []) (succeeded 0 0) ⌝ }
 {
@@ -182,12 +258,20 @@ pub fn check_rules(rules: Rules) -> Check
     let break_time = rules.break_time.0;
     let shift_limit = rules.shift_limit.0;
     let rest_time = rules.rest_time.0;
+    let first = rules.first_part.0;
+    let second = rules.second_part.0;
+    let first_taken = part_taken(rules, first);
+    let second_taken = part_taken(rules, second);
     let check = ruled(Check::Passed, 1 <= spell_limit, Refusal::BadRules(6));
     let check = ruled(check, 1 <= break_time, Refusal::BadRules(7));
     let check = ruled(check, spell_limit <= shift_limit, Refusal::BadRules(8));
     let check = ruled(check, shift_limit <= 1000000, Refusal::BadRules(8));
     let check = ruled(check, break_time <= rest_time, Refusal::BadRules(9));
-    ruled(check, rest_time <= 1000000, Refusal::BadRules(9))
+    let check = ruled(check, rest_time <= 1000000, Refusal::BadRules(9));
+    let check = ruled(check, first_taken, Refusal::BadRules(10));
+    let check = ruled(check, first <= break_time, Refusal::BadRules(10));
+    let check = ruled(check, second_taken, Refusal::BadRules(11));
+    ruled(check, second <= break_time, Refusal::BadRules(11))
 }
 
 // The trip's ends, words 0 to 3 of an order, on a map of so many junctions.

@@ -30,7 +30,7 @@ eases-itself trip =
       seconds = λ r low high. omega arith;
       parks = λ j e. e;
       latest = refl;
-      rules = record { limits = above-self _; pauses = above-self _ };
+      rules = record { limits = above-self _; pauses = above-self _; split = λ has. has; parts = λ has. above-self _ };
     }
 
 -- whatever covers a state at target is at target

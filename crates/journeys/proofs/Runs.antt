@@ -1,7 +1,7 @@
 -- Two runs compared by their bytes: an easier run eases the other as the laws of the moves ask. Assumes nothing.
 use mathlib.Core.Path.{_≡_, sym, ap, _∙_}
 use mathlib.Core.Bool.{true, false}
-use mathlib.Core.List.{List}
+use mathlib.Core.List.{List, [], _∷_}
 use mathlib.Core.Logic.{⊎-elim}
 use mathlib.Core.Option.{some}
 use Prim.Native.Nat.{ℕ, zero, suc, _-_, _≤_}
@@ -14,7 +14,7 @@ use Rattle.replies.specs.First.{NoneFits}
 use Rattle.roadmap.specs.Format.{junctionCount, roadCount, carPark}
 use Rattle.mapcheck.specs.MapCheck.{AcceptedMap}
 use Rattle.driving.specs.Order.{orderOf, orderTests}
-use Rattle.theory.proofs.Figures.{above-more}
+use Rattle.theory.proofs.Figures.{above-more, above-both, above-self}
 use Rattle.states.specs.declared.State.{State}
 use Rattle.states.specs.States.{covers}
 use Rattle.states.proofs.Compared.{covers-made}
@@ -70,13 +70,14 @@ module _ (mapB orderB mapA orderA : List ℕ) (easier : EasierRun mapB orderB ma
             omega (arith, ap (λ (s : Stretch). s .seconds) (road-b r low high), ap (λ (s : Stretch). s .seconds) (road-a r low high), easier .map .seconds r low (within r high));
         parks = park-any;
         latest = easier .trip .latest;
-        rules = record { limits = easier .order .limits; pauses = easier .order .pauses };
+        rules = easier .order .rules;
       }
 
   pub run-starts : T (covers (startIn (tripFrom mapB orderB)) (startIn (tripFrom mapA orderA)))
   unfolding tripOf
   run-starts =
-      covers-made _ _ (easier .trip .source) (above-more _ _ _ _ (omega (arith, easier .trip .departure)) (easier .order .figures))
+      covers-made _ _ (easier .trip .source)
+      (above-more _ _ _ _ (omega (arith, easier .trip .departure)) (above-both _ _ _ _ (easier .order .figures) (above-self (1 ∷ []))))
 
   pub run-targets : tripFrom mapB orderB .order .target ≡ tripFrom mapA orderA .order .target
   unfolding tripOf

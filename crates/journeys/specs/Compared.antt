@@ -1,4 +1,4 @@
--- Two runs compared, by their bytes. Document 01, "Two runs compared". Assumes nothing.
+-- Two runs compared, by their bytes. Document 01, "Two runs compared", and document 02, P5. Assumes nothing.
 use mathlib.Core.Path.{_≡_}
 use mathlib.Core.List.{List}
 use Prim.Native.Nat.{ℕ, _≤_}
@@ -6,7 +6,8 @@ use lib.Dec.{T}
 use Rattle.theory.specs.Figures.{noneAbove}
 use Rattle.roadmap.specs.Format.{junctionCount, roadCount, carPark, roadFrom, roadTo}
 use Rattle.driving.specs.Order.{orderWord, orderOf}
-use Rattle.driving.specs.Hours.{wheelFigures, wheelLimits, pauseTimes}
+use Rattle.driving.specs.Hours.{wheelFigures}
+use Rattle.driving.specs.Compared.{EasesRules}
 use Rattle.moves.specs.Trip.{stretchOf}
 
 -- two runs share the junctions and the roads' numbers and ends: J and R are equal, and each road number has the same from and to
@@ -28,11 +29,10 @@ pub record EasierMap (b a : List ℕ) : Type 0 where
   pub seconds : (r : ℕ) → 1 ≤ r → r ≤ roadCount a → stretchOf b r .seconds ≤ stretchOf a r .seconds
   pub parks : (j : ℕ) → 1 ≤ j → j ≤ junctionCount a → carPark a j ≡ 1 → carPark b j ≡ 1
 
--- in B no starting figure is higher, no limit lower, and no break or rest longer
+-- in B no starting figure is higher, and the rules are no harder
 pub record EasierOrder (b a : List ℕ) : Type 0 where
   pub figures : T (noneAbove (wheelFigures (orderOf b .figures)) (wheelFigures (orderOf a .figures)))
-  pub limits : T (noneAbove (wheelLimits (orderOf a .rules)) (wheelLimits (orderOf b .rules)))
-  pub pauses : T (noneAbove (pauseTimes (orderOf b .rules)) (pauseTimes (orderOf a .rules)))
+  pub rules : EasesRules (orderOf b .rules) (orderOf a .rules)
 
 -- nothing is worse in B
 pub record EasierRun (mapB orderB mapA orderA : List ℕ) : Type 0 where

@@ -37,7 +37,7 @@ timed trip s [] = some s
 timed trip s (m ∷ ms) =
     elim (offers trip s m && legal (trip .order) (after trip s m)) [ true ↦ timed trip (after trip s m) ms | false ↦ none ]
 
--- the sum of road times, breaks and rests
+-- the sum of road times, breaks and rests; a part of a break counts as a break
 unfoldable pub totalSeconds : Trip → List Move → ℕ
 unfolding moveSeconds
 totalSeconds trip [] = 0

@@ -1,4 +1,5 @@
--- The starred trial trips of document 01, with road times as document 02 (P2) rounds them, proved together: antt computes one test. Assumes nothing.
+-- The starred trial trips of document 01, with road times as document 02 (P2) rounds them, and T with Europe's parts (P5), proved together:
+-- antt computes one test. Assumes nothing.
 use mathlib.Core.Bool.{Bool, true, false, not, _&&_}
 use mathlib.Core.List.{List, [], _∷_, _++_}
 use mathlib.Core.Option.{Option, none, some}
@@ -22,9 +23,10 @@ use Rattle.states.specs.States.{figuresOf, legal, sameState, covers, ranksNoHig
 use Rattle.theory.specs.Lists.{every}
 use Rattle.theory.specs.Figures.{noneAbove, sameEach, lexicographic}
 use Rattle.sheets.specs.declared.Row.{Row}
+use Rattle.sheets.specs.Sheet.{wordBytes, headingBytes, rowBytes, rowsBytes, sheetAfter}
 use Rattle.journeys.specs.Labels.{answerIn, labelsIn}
 use Rattle.journeys.specs.Plan.{planMoves, planRows}
-use Rattle.journeys.specs.Planning.{planReply, tripFrom}
+use Rattle.journeys.specs.Planning.{planReply, planSheet, tripFrom}
 
 -- map T: Hub 1, Lay 2 (car park), End 3; roads 1 from 1 to 2, 2 from 2 to 3, 3 from 1 to 3
 abbrev pub mapT : List ℕ
@@ -34,17 +36,33 @@ mapT =
     ++ (spelled (1 ∷ 2 ∷ 240000 ∷ 80 ∷ 3 ∷ 2 ∷ 3 ∷ 160000 ∷ 80 ∷ 0 ∷ 1 ∷ 3 ∷ 400000 ∷ 80 ∷ 0 ∷ [])
     ++ (0x48 ∷ 0x75 ∷ 0x62 ∷ 0x4C ∷ 0x61 ∷ 0x79 ∷ 0x45 ∷ 0x6E ∷ 0x64 ∷ [])))
 
--- the European order 1 to 3, departure 0, with this latest arrival
+-- the European order 1 to 3, departure 0, with this latest arrival; T keeps both parts zero
 abbrev pub orderT : ℕ → List ℕ
-orderT latest = spelled (1 ∷ 3 ∷ 0 ∷ latest ∷ 0 ∷ 0 ∷ 16200 ∷ 2700 ∷ 32400 ∷ 39600 ∷ [])
+orderT latest = spelled (1 ∷ 3 ∷ 0 ∷ latest ∷ 0 ∷ 0 ∷ 16200 ∷ 2700 ∷ 32400 ∷ 39600 ∷ 0 ∷ 0 ∷ [])
 
 abbrev pub tripT : Trip
 tripT = tripFrom mapT (orderT 100000)
 
--- state (clock; spell; shift), at Lay
+-- the same with Europe's parts
+abbrev pub splitOrderT : ℕ → List ℕ
+splitOrderT latest = spelled (1 ∷ 3 ∷ 0 ∷ latest ∷ 0 ∷ 0 ∷ 16200 ∷ 2700 ∷ 32400 ∷ 39600 ∷ 900 ∷ 1800 ∷ [])
+
+-- state (clock; spell; shift) at this junction, with the mark or without
+abbrev pub stateAt : ℕ → ℕ → ℕ → ℕ → Bool → State
+stateAt junction clock spell shift marked =
+    record {
+      junction = junction;
+      clock = record { 0 = clock };
+      figures = record { spell = record { 0 = spell }; shift = record { 0 = shift }; marked = marked };
+    }
+
+-- at Lay, without the mark
 abbrev pub atLay : ℕ → ℕ → ℕ → State
-atLay clock spell shift =
-    record { junction = 2; clock = record { 0 = clock }; figures = record { spell = record { 0 = spell }; shift = record { 0 = shift } } }
+atLay clock spell shift = stateAt 2 clock spell shift false
+
+-- and with it
+abbrev pub markedAtLay : ℕ → ℕ → ℕ → State
+markedAtLay clock spell shift = stateAt 2 clock spell shift true
 
 -- one case, with what it must come to
 pub data Case : Type 0 where
@@ -52,10 +70,14 @@ pub data Case : Type 0 where
   takes : (metres speed seconds : ℕ) → Case
   -- T's answer has these figures
   answers : List ℕ → Case
-  -- T's rows: kind, number, clock after
-  lists : List Row → Case
-  -- T with this latest arrival, labels that fit and sheet length gets this reply
-  replies : (latest fit sheet : ℕ) → Reply → Case
+  -- T's rows by this order: kind, number, clock after
+  lists : (order : List ℕ) → List Row → Case
+  -- T by this order, with these labels that fit and this sheet length, gets this reply
+  replies : (order : List ℕ) (fit sheet : ℕ) → Reply → Case
+  -- T by this order has these labels
+  labelled : (order : List ℕ) → List State → Case
+  -- T by this order, with these labels that fit, gets a sheet of these words
+  writes : (order : List ℕ) (fit : ℕ) → List ℕ → Case
   -- at Lay with this spell, road 2 of 7,200 seconds is legal or not
   drives : (spell : ℕ) → Bool → Case
   -- the first state dominates the second or not
@@ -63,6 +85,14 @@ pub data Case : Type 0 where
 
 abbrev pub row : ℕ → ℕ → ℕ → Row
 row kind number clock = record { kind = kind; number = number; clock = record { 0 = clock } }
+
+-- T's sheet with this N: header and records
+abbrev pub sheetT : ℕ → List ℕ
+sheetT labels = 3 ∷ 20700 ∷ 7200 ∷ 18000 ∷ labels ∷ 1 ∷ 1 ∷ 10800 ∷ 2 ∷ 2 ∷ 13500 ∷ 1 ∷ 2 ∷ 20700 ∷ []
+
+-- a sheet as long, before anything is written
+abbrev pub blankSheet : List ℕ
+blankSheet = spelled (0 ∷ 0 ∷ 0 ∷ 0 ∷ 0 ∷ 0 ∷ 0 ∷ 0 ∷ 0 ∷ 0 ∷ 0 ∷ 0 ∷ 0 ∷ 0 ∷ [])
 
 abbrev pub sameBool : Bool → Bool → Bool
 sameBool true b = b
@@ -75,20 +105,29 @@ sameRows (a ∷ more) [] = false
 sameRows (a ∷ more) (b ∷ rest) =
     (eqb (a .kind) (b .kind) && (eqb (a .number) (b .number) && eqb (a .clock .0) (b .clock .0))) && sameRows more rest
 
+abbrev pub sameStates : List State → List State → Bool
+sameStates [] [] = true
+sameStates [] (b ∷ rest) = false
+sameStates (a ∷ more) [] = false
+sameStates (a ∷ more) (b ∷ rest) = sameState a b && sameStates more rest
+
 abbrev pub hasFigures : List ℕ → Option State → Bool
 hasFigures figures none = false
 hasFigures figures (some a) = sameEach (figuresOf a) figures
 
 unfoldable pub right : Case → Bool
-unfolding planReply wordAt format junctionCount roadCount nameBytes junctionWord roadWord oversize outside lowest badJunctionAt badRoadAt brokenChainAt among chainFrom badLetterAt firstBroken badRules badTrip tripOf nearest roadSeconds planRows planMoves labelsIn answerIn after legal sameState covers ranksNoHigher noneAbove sameEach lexicographic
+unfolding planReply planSheet sheetAfter headingBytes rowsBytes rowBytes wordBytes wordAt format junctionCount roadCount nameBytes junctionWord roadWord oversize outside lowest badJunctionAt badRoadAt brokenChainAt among chainFrom badLetterAt firstBroken badRules badTrip tripOf nearest roadSeconds planRows planMoves labelsIn answerIn after legal sameState covers ranksNoHigher noneAbove sameEach lexicographic
 right (takes metres speed seconds) = eqb (roadSeconds metres speed) seconds
 right (answers figures) = hasFigures figures (answerIn tripT)
-right (lists rows) = sameRows (planRows tripT) rows
-right (replies latest fit sheet reply) = sameReply (planReply mapT (orderT latest) fit sheet) reply
+right (lists order rows) = sameRows (planRows (tripFrom mapT order)) rows
+right (replies order fit sheet reply) = sameReply (planReply mapT order fit sheet) reply
+right (labelled order states) = sameStates (labelsIn (tripFrom mapT order)) states
+right (writes order fit words) = sameEach (planSheet mapT order fit blankSheet) (spelled words)
 right (drives spell is) = sameBool (legal (tripT .order) (after tripT (atLay 0 spell spell) (move 1 2))) is
 right (dominating b a is) = sameBool (dominatesState b a) is
 
--- in the order of document 01, its road times followed by some that lie halfway between two seconds; then T's sheet
+-- in the order of document 01, its road times followed by some that lie halfway between two seconds; then T's sheet, and T with Europe's
+-- parts: its N is 6, and of the sheet nothing else changes
 abbrev pub starredCases : List Case
 starredCases =
     takes 240000 80 10800
@@ -102,18 +141,32 @@ starredCases =
     ∷ takes 45 36 4
     ∷ takes 15 36 2
     ∷ takes 5 36 1
-    ∷ answers (20700 ∷ 7200 ∷ 18000 ∷ [])
-    ∷ replies 100000 4 56 (succeeded 4 20700)
-    ∷ replies 100000 3 56 (refusedAt 12 3)
-    ∷ replies 20700 4 56 (succeeded 4 20700)
-    ∷ replies 20699 4 56 (refusedAt 13 3)
+    ∷ answers (20700 ∷ 7200 ∷ 18000 ∷ 1 ∷ [])
+    ∷ replies (orderT 100000) 4 56 (succeeded 4 20700)
+    ∷ replies (orderT 100000) 3 56 (refusedAt 12 3)
+    ∷ replies (orderT 20700) 4 56 (succeeded 4 20700)
+    ∷ replies (orderT 20699) 4 56 (refusedAt 13 3)
     ∷ drives 9000 true
     ∷ drives 9001 false
     ∷ dominating (atLay 10000 10000 10000) (atLay 13000 300 10300) false
     ∷ dominating (atLay 13000 300 10300) (atLay 10000 10000 10000) false
     ∷ dominating (atLay 10000 10000 10000) (atLay 10000 10000 10000) false
-    ∷ lists (row 1 1 10800 ∷ row 2 2 13500 ∷ row 1 2 20700 ∷ [])
-    ∷ replies 100000 4 55 (refusedAt 14 56)
+    ∷ lists (orderT 100000) (row 1 1 10800 ∷ row 2 2 13500 ∷ row 1 2 20700 ∷ [])
+    ∷ replies (orderT 100000) 4 55 (refusedAt 14 56)
+    ∷ writes (orderT 100000) 4 (sheetT 4)
+    ∷ writes (splitOrderT 30000) 6 (sheetT 6)
+    ∷ replies (splitOrderT 30000) 5 56 (refusedAt 12 5)
+    ∷ labelled (splitOrderT 30000)
+    (stateAt 1 0 0 0 false
+    ∷ atLay 10800 10800 10800
+    ∷ markedAtLay 11700 10800 10800
+    ∷ atLay 13500 0 10800
+    ∷ markedAtLay 14400 0 10800
+    ∷ stateAt 3 20700 7200 18000 false
+    ∷ [])
+    ∷ dominating (markedAtLay 10000 10000 10000) (atLay 10000 10000 10000) true
+    ∷ dominating (atLay 10000 10000 10000) (markedAtLay 10000 10000 10000) false
+    ∷ dominating (atLay 10000 10000 10000) (markedAtLay 13000 10000 10000) false
     ∷ []
 
 pub starred : T (every right starredCases)

@@ -11,7 +11,8 @@ use lib.ListN.{length, getD, set, length-set, length-append, List·getD-append}
 use lib.Seq.{getD-set-same, getD-set-other, getD-at}
 use Rattle.states.specs.declared.State.{State}
 use Rattle.states.specs.LabelSpace.{labelWords}
-use Rattle.labels.specs.LabelWords.{stateWords, junctionField, clockField, spellField, shiftField, parentField, cursorField, winnerField, previousField, at, field, previousOf, labelAt, wordsOf, settled, column, Same, SameLabels, Added, puts}
+use Rattle.driving.proofs.Hours.{mark-told}
+use Rattle.labels.specs.LabelWords.{stateWords, junctionField, clockField, spellField, shiftField, unmarkedField, parentField, cursorField, winnerField, previousField, at, field, previousOf, labelAt, wordsOf, settled, column, Same, SameLabels, Added, puts}
 
 -- A word that is stored is read, and no other word of the labels changes.
 module _ (ws : List ℕ) (k f v : ℕ) (small : f < labelWords) where
@@ -44,7 +45,7 @@ module _ (ws ws′ : List ℕ) (n : ℕ) (kept : (p : ℕ) → p < labelWords * 
 
 pub same-label : (ws ws′ : List ℕ) (n : ℕ) → SameLabels ws ws′ n → (k : ℕ) → 1 ≤ k → k ≤ n → labelAt ws′ k ≡ labelAt ws k
 same-label ws ws′ n same k low high =
-    rw (word junctionField (omega arith), word clockField (omega arith), word spellField (omega arith), word shiftField (omega arith))
+    rw (word junctionField (omega arith), word clockField (omega arith), word spellField (omega arith), word shiftField (omega arith), word unmarkedField (omega arith))
   where
     word : (f : ℕ) → f < stateWords → field ws′ k f ≡ field ws k f
     word f small = same .states f small k low high
@@ -161,7 +162,7 @@ module _ (ws : List ℕ) (n : ℕ) (label : State) (parent cursor previous : ℕ
   word f small = put-word ws n words f (omega arith) (omega arith)
 
   is-label : labelAt ws′ (n + 1) ≡ label
-  is-label = rw (word junctionField (omega arith), word clockField (omega arith), word spellField (omega arith), word shiftField (omega arith))
+  is-label = rw (word junctionField (omega arith), word clockField (omega arith), word spellField (omega arith), word shiftField (omega arith), word unmarkedField (omega arith), mark-told (label .figures .marked))
 
   kept : (p : ℕ) → p < labelWords * n → getD ws′ p 0 ≡ getD ws p 0
   kept p h = puts-below ws (labelWords * n) 0 words p (omega arith)

@@ -17,7 +17,7 @@ use Rattle.theory.proofs.Figures.{above-head, above-tail}
 use Rattle.driving.specs.Hours.{wheelFigures}
 use Rattle.states.specs.declared.State.{State}
 use Rattle.states.specs.States.{covers}
-use Rattle.states.proofs.Compared.{covers-junction, covers-figures}
+use Rattle.states.proofs.Compared.{covers-junction, covers-figures, times-above}
 use Rattle.states.specs.LabelSpace.{labelWords}
 use Rattle.labels.specs.LabelWords.{largestWord, junctionField, spellField, shiftField, field, junctionOf, previousOf, labelAt, settled, Same, SameLabels, Added}
 use Rattle.labels.specs.Lists.{Last, Heads, LeastAt, Leasts, Lists, Lowered}
@@ -92,7 +92,7 @@ not-covered ws n label none C =
 
 module _ {ws hs ss fs : List ℕ} {n : ℕ} (label : State) (L : Lists ws hs ss fs n) (known : label .junction < length hs) where
   wheel : (k : ℕ) → T (covers (labelAt ws k) label) → T (noneAbove (wheelFigures (labelAt ws k .figures)) (wheelFigures (label .figures)))
-  wheel k C = above-tail _ _ _ _ (covers-figures (labelAt ws k) label C)
+  wheel k C = above-tail _ _ _ _ (times-above (labelAt ws k) label (covers-figures (labelAt ws k) label C))
 
   pub least-spell-above : label .figures .spell .0 < getD ss (label .junction) 0 → Covered covers (settled ws n) label → ⊥
   least-spell-above h =

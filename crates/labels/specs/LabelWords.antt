@@ -3,6 +3,7 @@
 use mathlib.Core.Path.{_≡_}
 use mathlib.Core.List.{List, [], _∷_, _++_}
 use Prim.Native.Nat.{ℕ, zero, suc, _+_, _-_, _*_, _≤_, _<_}
+use lib.Dec.{eqb}
 use lib.ListN.{getD, set}
 use Rattle.states.specs.declared.State.{State}
 use Rattle.states.specs.States.{figuresOf}
@@ -13,7 +14,7 @@ largestWord = 4294967295
 
 -- which of a label's words is which: the state's first, its junction and its figures
 abbrev pub stateWords : ℕ
-stateWords = 4
+stateWords = 5
 
 abbrev pub junctionField : ℕ
 junctionField = 0
@@ -27,21 +28,25 @@ spellField = 2
 abbrev pub shiftField : ℕ
 shiftField = 3
 
+-- 0 with the mark, 1 without
+abbrev pub unmarkedField : ℕ
+unmarkedField = 4
+
 -- the label that this one was made from
 abbrev pub parentField : ℕ
-parentField = 4
+parentField = 5
 
 -- which successor of the label is its candidate
 abbrev pub cursorField : ℕ
-cursorField = 5
+cursorField = 6
 
 -- the label with the least candidate in this node's subtree of the winner tree
 abbrev pub winnerField : ℕ
-winnerField = 6
+winnerField = 7
 
 -- the last label before this one at the same junction, 0 if none
 abbrev pub previousField : ℕ
-previousField = 7
+previousField = 8
 
 -- where word f of label k stands
 abbrev pub at : ℕ → ℕ → ℕ
@@ -74,7 +79,12 @@ labelAt ws k =
     record {
       junction = junctionOf ws k;
       clock = record { 0 = clockOf ws k };
-      figures = record { spell = record { 0 = field ws k spellField }; shift = record { 0 = field ws k shiftField } };
+      figures =
+          record {
+            spell = record { 0 = field ws k spellField };
+            shift = record { 0 = field ws k shiftField };
+            marked = eqb (field ws k unmarkedField) 0;
+          };
     }
 
 -- all words of a label

@@ -21,13 +21,15 @@ const SPELL: usize = 2;
 
 const SHIFT: usize = 3;
 
-const PARENT: usize = 4;
+const UNMARKED: usize = 4;
 
-const CURSOR: usize = 5;
+const PARENT: usize = 5;
 
-const WINNER: usize = 6;
+const CURSOR: usize = 6;
 
-const PREVIOUS: usize = 7;
+const WINNER: usize = 7;
+
+const PREVIOUS: usize = 8;
 
 // Word f of label k.
 fn field(words: &[u32], k: usize, f: usize) -> u32
@@ -48,6 +50,7 @@ pub fn read_label(words: &[u32], k: usize) -> State
         figures: Figures {
             spell: Wheel(field(words, k, SPELL)),
             shift: Wheel(field(words, k, SHIFT)),
+            marked: field(words, k, UNMARKED) == 0,
         },
     }
 }
@@ -146,10 +149,12 @@ fn store(
     requires { ⌜ i + labelWords ≤ length (now words) ⌝ }
     ensures { λ _. ⌜ now (words .exit) ≡ puts (now (words .entry)) i 0 (wordsOf label parent cursor winner previous) ⌝ }
 {
+    let unmarked = driving::unmarked(label.figures);
     words[i + JUNCTION] = label.junction;
     words[i + CLOCK] = label.clock.0;
     words[i + SPELL] = label.figures.spell.0;
     words[i + SHIFT] = label.figures.shift.0;
+    words[i + UNMARKED] = unmarked;
     words[i + PARENT] = parent;
     words[i + CURSOR] = cursor;
     words[i + WINNER] = winner;

@@ -10,17 +10,19 @@ use borrow.Author.Tests.{le-leb, leb-true, eq-eqb, eqb-true}
 use lib.Dec.{T, leb, eqb}
 use Rattle.booleans.proofs.Tests.{cases, and-true}
 use Rattle.theory.specs.Figures.{noneAbove}
-use Rattle.theory.proofs.Figures.{above-at, above-more, above-trans}
+use Rattle.theory.proofs.Figures.{above-tail, above-more, above-trans}
 use Rattle.theory.proofs.Changes.{Change, grows, changedEach, none-changed}
-use Rattle.driving.specs.Hours.{firstPause, lastPause, pauseTimes, pauseSeconds}
-use Rattle.driving.proofs.Hours.{driveChanges, figures-driven, pauseChanges, figures-cleared}
+use Rattle.driving.specs.Hours.{firstPause, lastPause, pauseSeconds}
+use Rattle.driving.proofs.Hours.{driveChanges, figures-driven, pauseChanges, figures-cleared, allowed-too, no-longer}
 use Rattle.states.specs.declared.State.{State}
 use Rattle.states.specs.States.{figuresOf, limitsOf, legal, covers}
-use Rattle.states.proofs.Compared.{covers-junction, covers-figures, covers-made, legal-within, within-legal}
+use Rattle.states.proofs.Compared.{covers-junction, covers-figures, covers-made, times-above, legal-within, within-legal}
 use Rattle.moves.specs.declared.Move.{Move}
-use Rattle.moves.specs.Trip.{Trip, roadIn, roadsIn}
+use Rattle.moves.specs.Trip.{Trip, roadIn, parkIn, roadsIn}
 use Rattle.moves.specs.Moves.{leaves, mayPause, offers, after, moveSeconds}
 use Rattle.moves.specs.Compared.{Eases}
+use Rattle.moves.proofs.Stepped.{offered-road}
+use Rattle.moves.proofs.Offered.{pause-allowed}
 
 -- what a move does to each figure: its seconds are added to clock, and by its kind it drives on or clears
 abbrev changesOf : Bool → ℕ → List Change
@@ -39,14 +41,6 @@ figures-after trip s m =
     (figures-cleared (m .kind) (pauseSeconds (trip .order .rules) (m .kind)) (s .figures))))
     (cases (eqb (m .kind) 1))
 
--- an offered drive is of a road of the map
-pub offered-road : (trip : Trip) (s : State) (m : Move) → offers trip s m ≡ true → eqb (m .kind) 1 ≡ true → (1 ≤ m .number) × (m .number ≤ roadsIn trip)
-unfolding offers
-offered-road trip s m offered drive =
-    let leaving : leaves trip (s .junction) (m .number) ≡ true = rw drive at offered in
-    let range = and-true {a = leb 1 (m .number)} (and-true {a = leb 1 (m .number) && leb (m .number) (roadsIn trip)} leaving .0) in
-    (leb-true _ _ (range .0), leb-true _ _ (range .1))
-
 -- where B eases A, what A offers in a state B offers in one that is no worse
 module _ (tb ta : Trip) (eases : Eases tb ta) (b a : State) (m : Move) (over : T (covers b a)) where
   same : b .junction ≡ a .junction
@@ -63,7 +57,9 @@ module _ (tb ta : Trip) (eases : Eases tb ta) (b a : State) (m : Move) (over : T
   eased-pause : mayPause ta a (m .kind) ≡ true → mayPause tb b (m .kind) ≡ true
   eased-pause e =
       let parts = and-true {a = leb firstPause (m .kind) && leb (m .kind) lastPause} e in
-      rw (parts .0, same) (eases .parks (a .junction) (parts .1))
+      let here = and-true {a = parkIn ta (a .junction)} (parts .1) in
+      rw (parts .0, same, eases .parks (a .junction) (here .0))
+      (allowed-too (tb .order .rules) (ta .order .rules) (eases .rules) (b .figures) (a .figures) (m .kind) (above-tail _ _ _ _ (covers-figures b a over)) (here .1))
 
   eased-offers : offers ta a m ≡ true → offers tb b m ≡ true
   unfolding offers
@@ -77,12 +73,14 @@ module _ (tb ta : Trip) (eases : Eases tb ta) (b a : State) (m : Move) (over : T
 
   -- no move that A offers takes longer in B
   eased-seconds : offers ta a m ≡ true → moveSeconds tb m ≤ moveSeconds ta m
-  unfolding moveSeconds
+  unfolding offers moveSeconds
   eased-seconds e =
       ⊎-elim
       (λ (drive : eqb (m .kind) 1 ≡ true). let range = offered-road ta a m e drive in rw drive (eases .seconds (m .number) (range .0) (range .1)))
       (λ (pause : eqb (m .kind) 1 ≡ false).
-      rw pause (above-at (pauseTimes (tb .order .rules)) (pauseTimes (ta .order .rules)) (m .kind - firstPause) (eases .rules .pauses)))
+      let may = and-true {a = eqb (m .number) (a .junction)} (rw pause at e) .1 in
+      rw pause
+      (no-longer (tb .order .rules) (ta .order .rules) (eases .rules) (a .figures) (m .kind) (pause-allowed ta a (m .kind) may)))
       (cases (eqb (m .kind) 1))
 
   -- and leads to the same junction
@@ -111,6 +109,6 @@ module _ (tb ta : Trip) (eases : Eases tb ta) (b a : State) (m : Move) (over : T
         offered = eased-offers offered;
         lawful =
             within-legal (tb .order) (after tb b m)
-            (above-trans _ _ _ figures (above-trans _ _ _ (legal-within (ta .order) (after ta a m) lawful) limits));
+            (above-trans _ _ _ (times-above (after tb b m) (after ta a m) figures) (above-trans _ _ _ (legal-within (ta .order) (after ta a m) lawful) limits));
         over-after = covers-made (after tb b m) (after ta a m) (eased-junction offered) figures;
       }

@@ -9,12 +9,12 @@ use native.Mathlib.Nat.{eq-or-lt-of-le}
 use borrow.Author.Tests.{leb-true, eqb-true, eq-eqb, ne-eqb}
 use lib.Dec.{leb, eqb}
 use Rattle.booleans.proofs.Tests.{cases, and-true}
-use Rattle.driving.specs.Hours.{firstPause, lastPause, pauseCount}
+use Rattle.driving.specs.Hours.{firstPause, lastPause, pauseCount, allowsPause}
 use Rattle.states.specs.declared.State.{State}
 use Rattle.moves.specs.declared.Move.{Move}
-use Rattle.moves.specs.Trip.{Trip, counted, roadsIn}
+use Rattle.moves.specs.Trip.{Trip, counted, parkIn, roadsIn}
 use Rattle.moves.specs.Moves.{move, leaves, mayPause, offers, chosen, offered}
-use Rattle.moves.proofs.Monotone.{offered-road}
+use Rattle.moves.proofs.Stepped.{offered-road}
 
 counted-mem : (k n r : ℕ) → k ≤ r → r < k + n → List·Memᴰ r (counted (λ r. r) k n)
 unfolding counted
@@ -65,11 +65,14 @@ module _ (test : ℕ → Bool) (made : ℕ → Move) where
       further : (n : ℕ) × (m ≡ made n) × (test n ≡ true) × List·Memᴰ n ns → (n : ℕ) × (m ≡ made n) × (test n ≡ true) × List·Memᴰ n (x ∷ ns)
       further f = (f .0, f .1, f .2, List·Memᴰ·tail (f .3))
 
--- a pause of a kind from the first to the last
+-- a pause of a kind from the first to the last, that the rules have for the driver's figures
 pub pause-range : (trip : Trip) (s : State) (kind : ℕ) → mayPause trip s kind ≡ true → (firstPause ≤ kind) × (kind ≤ lastPause)
 pause-range trip s kind e =
     let range = and-true {a = leb firstPause kind} (and-true {a = leb firstPause kind && leb kind lastPause} e .0) in
     (leb-true _ _ (range .0), leb-true _ _ (range .1))
+
+pub pause-allowed : (trip : Trip) (s : State) (kind : ℕ) → mayPause trip s kind ≡ true → allowsPause (trip .order .rules) (s .figures) kind ≡ true
+pause-allowed trip s kind e = and-true {a = parkIn trip (s .junction)} (and-true {a = leb firstPause kind && leb kind lastPause} e .1) .1
 
 -- an offered move: a drive of a road of the junction, or a pause here of a kind that the rules offer
 pub data Offer (trip : Trip) (s : State) (m : Move) : Type 0 where

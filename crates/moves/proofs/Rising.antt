@@ -26,8 +26,8 @@ use Rattle.moves.specs.Trip.{Trip, tripOf, roadIn, roadsIn, junctionsIn}
 use Rattle.moves.specs.Moves.{offers, after, moveSeconds}
 use Rattle.moves.specs.Runs.{Accepted, InRange, tripIn}
 use Rattle.moves.proofs.Trips.{roads-in, junctions-in, order-in, road-in}
-use Rattle.moves.proofs.Monotone.{offered-road}
-use Rattle.moves.proofs.Offered.{pause-range}
+use Rattle.moves.proofs.Stepped.{offered-road}
+use Rattle.moves.proofs.Offered.{pause-allowed}
 
 -- what is sound of a run's record: its roads lead to its junctions and take time, and so do its pauses
 pub record SoundTrip (trip : Trip) : Type 0 where
@@ -56,7 +56,7 @@ sound-trip map o accepted ordered =
 pub run-sound : (map : List ℕ) (run : Run) → Accepted map run → SoundTrip (tripIn map run)
 run-sound map run accepted = sound-trip map (run .order) (accepted .mapped) (accepted .ordered)
 
--- arrival less departure is the sum of road times, breaks and rests
+-- arrival less departure is the sum of road times, breaks, rests and parts of breaks
 pub clock-after : (trip : Trip) (s : State) (m : Move) → after trip s m .clock .0 ≡ s .clock .0 + moveSeconds trip m
 unfolding after moveSeconds
 clock-after trip s m =
@@ -71,8 +71,7 @@ module _ (trip : Trip) (sound : SoundTrip trip) (s : State) (m : Move) (offered 
       let range = offered-road trip s m offered drive in rw drive (sound .seconds (m .number) (range .0) (range .1)))
       (λ (pause : eqb (m .kind) 1 ≡ false).
       let may = and-true {a = eqb (m .number) (s .junction)} (rw pause at offered) .1 in
-      let range = pause-range trip s (m .kind) may in
-      rw pause (pause-takes (trip .order .rules) (sound .ordered .sound-rules) (m .kind) (range .0) (range .1)))
+      rw pause (pause-takes (trip .order .rules) (sound .ordered .sound-rules) (s .figures) (m .kind) (pause-allowed trip s (m .kind) may)))
       (cases (eqb (m .kind) 1))
 
   -- every move raises the clock by at least 1

@@ -33,6 +33,14 @@ leaves-range map o j r e =
     let range = and-true (and-true {a = leb 1 r && leb r (roadsIn (tripOf map o))} e .0) in
     (leb-true _ _ (range .0), rw (roads-in map o) at (leb-true r (roadsIn (tripOf map o)) (range .1)))
 
+-- an offered drive is of a road of the map
+pub offered-road : (trip : Trip) (s : State) (m : Move) → offers trip s m ≡ true → eqb (m .kind) 1 ≡ true → (1 ≤ m .number) × (m .number ≤ roadsIn trip)
+unfolding offers
+offered-road trip s m offered drive =
+    let leaving : leaves trip (s .junction) (m .number) ≡ true = rw drive at offered in
+    let range = and-true {a = leb 1 (m .number)} (and-true {a = leb 1 (m .number) && leb (m .number) (roadsIn trip)} leaving .0) in
+    (leb-true _ _ (range .0), leb-true _ _ (range .1))
+
 -- what the code finds of a drive and of a pause is what the definition says
 module _ (map : List ℕ) (o : Order) (s : State) (number : ℕ) where
   pub drive-foreign : leaves (tripOf map o) (s .junction) number ≡ false → Step.Foreign ≡ stepped (tripOf map o) s (move 1 number)

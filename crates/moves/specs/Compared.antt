@@ -2,18 +2,11 @@
 use mathlib.Core.Path.{_≡_}
 use mathlib.Core.Bool.{true}
 use Prim.Native.Nat.{ℕ, _≤_}
-use lib.Dec.{T}
-use Rattle.theory.specs.Figures.{noneAbove}
-use Rattle.driving.specs.declared.Rules.{Rules}
-use Rattle.driving.specs.Hours.{wheelLimits, pauseTimes}
+use Rattle.driving.specs.Compared.{EasesRules}
 use Rattle.moves.specs.Trip.{Trip, roadIn, parkIn, roadsIn, junctionsIn}
 
--- no limit is lower in B, no pause is longer
-pub record EasesRules (b a : Rules) : Type 0 where
-  pub limits : T (noneAbove (wheelLimits a) (wheelLimits b))
-  pub pauses : T (noneAbove (pauseTimes b) (pauseTimes a))
-
--- the junctions, the numbers and ends of the roads and latest are shared; no road takes longer in B, and each car park of A is one
+-- the junctions, the numbers and ends of the roads and latest are shared; no road takes longer in B, each car park of A is one, and the
+-- rules are no harder
 pub record Eases (b a : Trip) : Type 0 where
   pub junctions : junctionsIn b ≡ junctionsIn a
   pub roads : roadsIn b ≡ roadsIn a

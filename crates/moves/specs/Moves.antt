@@ -1,17 +1,17 @@
--- The moves: which are offered, and what they lead to. Document 01, "Moves". Assumes nothing.
+-- The moves: which are offered, and what they lead to. Document 01, "Moves", and document 02, P5. Assumes nothing.
 use mathlib.Core.Bool.{Bool, true, false, _&&_}
 use mathlib.Core.List.{List, [], _∷_, _++_}
 use Prim.Native.Nat.{ℕ, _+_}
 use lib.Dec.{leb, eqb}
 use Rattle.driving.specs.declared.Rules.{Rules}
-use Rattle.driving.specs.Hours.{drivenOn, firstPause, lastPause, pauseCount, pauseSeconds, cleared}
+use Rattle.driving.specs.Hours.{drivenOn, firstPause, lastPause, pauseCount, pauseSeconds, allowsPause, cleared}
 use Rattle.states.specs.declared.State.{State}
 use Rattle.states.specs.States.{legal}
 use Rattle.moves.specs.declared.Move.{Move}
 use Rattle.moves.specs.declared.Step.{Step}
 use Rattle.moves.specs.Trip.{Stretch, Trip, counted, roadIn, parkIn, roadsIn}
 
--- kinds: 1 drive, 2 break, 3 rest; the number is the road's, or the pausing junction's
+-- kinds: 1 drive, 2 break, 3 rest, 4 first part, 5 second part; the number is the road's, or the pausing junction's
 abbrev pub move : ℕ → ℕ → Move
 move kind number = record { kind = kind; number = number }
 
@@ -19,9 +19,10 @@ move kind number = record { kind = kind; number = number }
 abbrev pub leaves : Trip → ℕ → ℕ → Bool
 leaves trip j r = (leb 1 r && leb r (roadsIn trip)) && eqb (roadIn trip r .from) j
 
--- whether the rules offer a pause of this kind in a state: any kind, at a car park
+-- whether the rules offer a pause of this kind in a state: one that they have for the driver's figures, at a car park
 abbrev pub mayPause : Trip → State → ℕ → Bool
-mayPause trip s kind = (leb firstPause kind && leb kind lastPause) && parkIn trip (s .junction)
+mayPause trip s kind =
+    (leb firstPause kind && leb kind lastPause) && (parkIn trip (s .junction) && allowsPause (trip .order .rules) (s .figures) kind)
 
 -- a pause is taken here
 abbrev pub offersKind : Bool → Trip → State → Move → Bool
@@ -40,7 +41,7 @@ driven road s =
       figures = drivenOn (road .seconds) (s .figures);
     }
 
--- a pause of this kind: its time is added to clock, and figures are cleared
+-- a pause of this kind: its time is added to clock, and figures are cleared or the mark is set
 abbrev pub paused : ℕ → Rules → State → State
 paused kind rules s =
     record {
@@ -56,7 +57,7 @@ afterKind false trip s m = paused (m .kind) (trip .order .rules) s
 unfoldable pub after : Trip → State → Move → State
 after trip s m = afterKind (eqb (m .kind) 1) trip s m
 
--- what a move adds to the clock: a road time, a break or a rest
+-- what a move adds to the clock: a road time, a break, a rest or a part of a break
 abbrev pub secondsKind : Bool → Trip → Move → ℕ
 secondsKind true trip m = roadIn trip (m .number) .seconds
 secondsKind false trip m = pauseSeconds (trip .order .rules) (m .kind)

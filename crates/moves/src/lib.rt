@@ -114,7 +114,10 @@ pub fn may_pause(map: &[u8], run: Run, state: State, kind: u32) -> bool
     if Rules::LAST_PAUSE < kind {
         return false;
     }
-    roadmap::car_park(map, sizes, state.junction) == 1
+    if roadmap::car_park(map, sizes, state.junction) != 1 {
+        return false;
+    }
+    driving::allows_pause(run.order.rules, state.figures, kind)
 }
 
 // What an offered move comes to, by the state after it.

@@ -78,7 +78,13 @@ fn put_kind(page: &mut [u8; PAGE_BYTES], used: usize, kind: u32) -> usize {
     if kind == Rules::BREAK {
         return put_text(page, used, b"break");
     }
-    put_text(page, used, b"rest")
+    if kind == Rules::REST {
+        return put_text(page, used, b"rest");
+    }
+    if kind == Rules::FIRST_PART {
+        return put_text(page, used, b"first");
+    }
+    put_text(page, used, b"second")
 }
 
 // The junction that a move leads to: where the road ends, or where the pause is.

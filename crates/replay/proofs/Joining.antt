@@ -6,15 +6,15 @@ use mathlib.Core.Logic.{⊎-elim}
 use Prim.Native.Nat.{ℕ, _+_, _≤_, _<_}
 use native.Mathlib.Omega.{arith}
 use borrow.Author.Tests.{le-leb, lt-leb, ne-eqb, eqb-true}
-use lib.Dec.{T}
+use lib.Dec.{T, leb}
 use Rattle.booleans.proofs.Tests.{cases}
 use Rattle.driving.specs.declared.Figures.{Figures}
 use Rattle.driving.specs.declared.Rules.{Rules}
 use Rattle.driving.specs.Accepted.{SoundRules}
-use Rattle.driving.specs.Hours.{afterBreak, afterRest}
+use Rattle.driving.specs.Hours.{hasSplit, afterBreak, afterRest, afterFirst, afterSecond}
 use Rattle.replay.specs.declared.TraceRecord.{TraceRecord}
 use Rattle.replay.specs.Trace.{driving, pause, isDriving, isPause, pauseOf, pausedBefore, joined}
-use Rattle.replay.specs.Replay.{afterPause, afterEach, mostSeconds}
+use Rattle.replay.specs.Replay.{afterShortPause, afterPause, afterEach, mostSeconds}
 
 -- a pause is no driving
 pub pause-no-driving : (r : TraceRecord) → isPause r ≡ true → isDriving r ≡ false
@@ -22,6 +22,11 @@ pause-no-driving r is = ne-eqb (r .activity) driving (λ e. omega (arith, eqb-tr
 
 pub driving-no-pause : (r : TraceRecord) → isDriving r ≡ true → isPause r ≡ false
 driving-no-pause r is = ne-eqb (r .activity) pause (λ e. omega (arith, eqb-true (r .activity) driving is))
+
+-- a pause that is too short for a second part is none, marked or not
+pub too-short : (marked : Bool) {long : Bool} → long ≡ false → (marked && long) ≡ false
+too-short true short = short
+too-short false short = refl
 
 -- a pause by its length
 module _ (rules : Rules) (seconds : ℕ) (f : Figures) where
@@ -31,8 +36,21 @@ module _ (rules : Rules) (seconds : ℕ) (f : Figures) where
   pub clears-spell : seconds < rules .«rest_time» .0 → rules .«break_time» .0 ≤ seconds → afterPause rules seconds f ≡ afterBreak f
   clears-spell no-rest breaks = rw (lt-leb (rules .«rest_time» .0) seconds no-rest, le-leb (rules .«break_time» .0) seconds breaks)
 
-  pub clears-nothing : seconds < rules .«rest_time» .0 → seconds < rules .«break_time» .0 → afterPause rules seconds f ≡ f
-  clears-nothing no-rest no-break = rw (lt-leb (rules .«rest_time» .0) seconds no-rest, lt-leb (rules .«break_time» .0) seconds no-break)
+  pub is-short : seconds < rules .«rest_time» .0 → seconds < rules .«break_time» .0 → afterPause rules seconds f ≡ afterShortPause rules seconds f
+  is-short no-rest no-break = rw (lt-leb (rules .«rest_time» .0) seconds no-rest, lt-leb (rules .«break_time» .0) seconds no-break)
+
+  -- one shorter than the break, by the split, the mark and the parts
+  pub no-part : hasSplit rules ≡ false → afterShortPause rules seconds f ≡ f
+  no-part no-split = rw no-split
+
+  pub second-part : hasSplit rules ≡ true → f .marked ≡ true → leb (rules .«second_part» .0) seconds ≡ true → afterShortPause rules seconds f ≡ afterSecond f
+  second-part split marked long = rw (split, marked, long)
+
+  pub first-part : hasSplit rules ≡ true → (f .marked && leb (rules .«second_part» .0) seconds) ≡ false → rules .«first_part» .0 ≤ seconds → afterShortPause rules seconds f ≡ afterFirst f
+  first-part split no-second firsts = rw (split, no-second, le-leb (rules .«first_part» .0) seconds firsts)
+
+  pub neither-part : hasSplit rules ≡ true → (f .marked && leb (rules .«second_part» .0) seconds) ≡ false → seconds < rules .«first_part» .0 → afterShortPause rules seconds f ≡ f
+  neither-part split no-second no-first = rw (split, no-second, lt-leb (rules .«first_part» .0) seconds no-first)
 
 -- a pause in front of what begins with a pause, and of what does not
 pub before-pause : (seconds : ℕ) (r : TraceRecord) (rs : List TraceRecord) → isPause r ≡ true → pausedBefore seconds (r ∷ rs) ≡ pauseOf (seconds + r .seconds) ∷ rs
@@ -119,9 +137,15 @@ in-front rules a (r ∷ rs) f =
     (cases (isPause r))
 
 module _ (rules : Rules) (sound : SoundRules rules) where
-  -- no pause clears nothing, and one that is longer than any rule asks for clears what the longest does
+  -- no pause changes nothing, since with a split each part is at least 1; one that is longer than any rule asks for clears what the longest
+  -- does
   pub no-pause : (f : Figures) → afterPause rules 0 f ≡ f
-  no-pause f = clears-nothing rules 0 f (omega (arith, sound)) (omega (arith, sound))
+  no-pause f =
+      is-short rules 0 f (omega (arith, sound)) (omega (arith, sound))
+      ∙ ⊎-elim
+      (λ (split : hasSplit rules ≡ true). neither-part rules 0 f split (too-short (f .marked) (lt-leb _ _ (sound .second-low split))) (sound .first-low split))
+      (λ (no-split : hasSplit rules ≡ false). no-part rules 0 f no-split)
+      (cases (hasSplit rules))
 
   long-pause : (a b : ℕ) (f : Figures) → mostSeconds ≤ a → mostSeconds ≤ b → afterPause rules a f ≡ afterPause rules b f
   long-pause a b f long-a long-b = clears-both rules a f (omega (arith, sound)) ∙ sym (clears-both rules b f (omega (arith, sound)))

@@ -1,6 +1,6 @@
 -- A replay under way keeps sound figures. Assumes nothing.
 use mathlib.Core.Path.{_≡_, refl}
-use mathlib.Core.Bool.{Bool, true, false, not}
+use mathlib.Core.Bool.{Bool, true, false, not, _&&_}
 use mathlib.Core.Logic.{⊎-elim}
 use Prim.Native.Nat.{ℕ, _+_, _≤_}
 use native.Mathlib.Omega.{arith}
@@ -12,7 +12,7 @@ use Rattle.theory.proofs.Figures.{above-head, above-tail, above-trans}
 use Rattle.driving.specs.declared.Figures.{Figures}
 use Rattle.driving.specs.declared.Rules.{Rules}
 use Rattle.driving.specs.Accepted.{SoundRules, SoundFigures}
-use Rattle.driving.specs.Hours.{wheelFigures, wheelLimits, highestLimits, drivenOn}
+use Rattle.driving.specs.Hours.{wheelFigures, wheelLimits, highestLimits, drivenOn, hasSplit, afterBreak, afterRest, afterFirst, afterSecond}
 use Rattle.driving.proofs.Hours.{figures-within, limits-within}
 use Rattle.replay.specs.declared.TraceRecord.{TraceRecord}
 use Rattle.replay.specs.declared.Underway.{Underway}
@@ -33,12 +33,18 @@ seconds-high r even =
 
 -- a pause leaves sound figures sound
 pub paused-sound : (f : Figures) (rules : Rules) (seconds : ℕ) → SoundFigures f rules → SoundFigures (afterPause rules seconds f) rules
-paused-sound f rules seconds sound = by (leb (rules .«rest_time» .0) seconds) (leb (rules .«break_time» .0) seconds)
+paused-sound f rules seconds sound =
+    by (leb (rules .«rest_time» .0) seconds) (leb (rules .«break_time» .0) seconds) (hasSplit rules)
+    (f .marked && leb (rules .«second_part» .0) seconds) (leb (rules .«first_part» .0) seconds)
   where
-    by : (rests breaks : Bool) → SoundFigures (pickFigures rests (record { spell = record { 0 = 0 }; shift = record { 0 = 0 } }) (pickFigures breaks (record { spell = record { 0 = 0 }; shift = f .shift }) f)) rules
-    by true breaks = record { spell-high = omega arith; figures-rise = omega arith; shift-high = omega arith }
-    by false true = record { spell-high = omega arith; figures-rise = omega arith; shift-high = sound .shift-high }
-    by false false = sound
+    by : (rests breaks split ends begins : Bool) →
+        SoundFigures (pickFigures rests (afterRest f) (pickFigures breaks (afterBreak f) (pickFigures split (pickFigures ends (afterSecond f) (pickFigures begins (afterFirst f) f)) f))) rules
+    by true breaks split ends begins = record { spell-high = omega arith; figures-rise = omega arith; shift-high = omega arith }
+    by false true split ends begins = record { spell-high = omega arith; figures-rise = omega arith; shift-high = sound .shift-high }
+    by false false true true begins = record { spell-high = omega arith; figures-rise = omega arith; shift-high = sound .shift-high }
+    by false false true false true = record { spell-high = sound .spell-high; figures-rise = sound .figures-rise; shift-high = sound .shift-high }
+    by false false true false false = sound
+    by false false false ends begins = sound
 
 driven-sound : (f : Figures) (rules : Rules) (seconds : ℕ) → SoundFigures f rules → T (noneAbove (wheelFigures (drivenOn seconds f)) (wheelLimits rules)) → SoundFigures (drivenOn seconds f) rules
 driven-sound f rules seconds sound within =

@@ -1,5 +1,5 @@
--- Worked cases of replaying, proved together: antt computes one test. Document 02, P3. Assumes nothing.
-use mathlib.Core.Bool.{Bool, _&&_}
+-- Worked cases of replaying, proved together: antt computes one test. Document 02, P3 and P5. Assumes nothing.
+use mathlib.Core.Bool.{Bool, true, false, _&&_}
 use mathlib.Core.List.{List, [], _∷_}
 use Prim.Native.Nat.{ℕ}
 use lib.Dec.{T}
@@ -13,34 +13,64 @@ use Rattle.replies.specs.Told.{succeeded, refusedAt}
 use Rattle.replies.specs.Alike.{sameReply}
 use Rattle.driving.specs.declared.Figures.{Figures}
 use Rattle.driving.specs.declared.Rules.{Rules}
-use Rattle.driving.specs.Hours.{wheelFigures}
+use Rattle.driving.specs.Hours.{driverFigures}
 use Rattle.driving.specs.Order.{firstBroken, badRules, badFigures}
 use Rattle.replay.specs.Trace.{recordsFrom, pausedBefore, joined}
 use Rattle.replay.specs.Replay.{afterEach, isOdd, isPast, isStopped, replayReply, figuresAfter}
 
+-- spell and shift, without the mark and with it
 abbrev figures : ℕ → ℕ → Figures
-figures spell shift = record { spell = record { 0 = spell }; shift = record { 0 = shift } }
+figures spell shift = record { spell = record { 0 = spell }; shift = record { 0 = shift }; marked = false }
 
--- spell limit 100, break 10, shift limit 200, this rest
+abbrev marked : ℕ → ℕ → Figures
+marked spell shift = record { spell = record { 0 = spell }; shift = record { 0 = shift }; marked = true }
+
+-- spell limit 100, break 10, shift limit 200, this rest, and no split
 abbrev ruled : ℕ → Rules
-ruled rest = record { «spell_limit» = record { 0 = 100 }; «break_time» = record { 0 = 10 }; «shift_limit» = record { 0 = 200 }; «rest_time» = record { 0 = rest } }
+ruled rest =
+    record {
+      «spell_limit» = record { 0 = 100 };
+      «break_time» = record { 0 = 10 };
+      «shift_limit» = record { 0 = 200 };
+      «rest_time» = record { 0 = rest };
+      «first_part» = record { 0 = 0 };
+      «second_part» = record { 0 = 0 };
+    }
 
--- from these figures, the trace of these bytes gets this reply and leaves these figures
+-- spell limit 16,200, break 2,700, shift limit 32,400, rest 39,600, and these parts
+abbrev split : ℕ → ℕ → Rules
+split first second =
+    record {
+      «spell_limit» = record { 0 = 16200 };
+      «break_time» = record { 0 = 2700 };
+      «shift_limit» = record { 0 = 32400 };
+      «rest_time» = record { 0 = 39600 };
+      «first_part» = record { 0 = first };
+      «second_part» = record { 0 = second };
+    }
+
+-- by these rules and from these figures, the trace of these bytes gets this reply and leaves these figures
 record Case : Type 0 where
   trace : List ℕ
-  rest : ℕ
+  rules : Rules
   before : Figures
   reply : Reply
   after : Figures
 
+abbrev under : Rules → List ℕ → Figures → Reply → Figures → Case
+under rules words before reply after = record { trace = spelled words; rules = rules; before = before; reply = reply; after = after }
+
 abbrev replays : List ℕ → Figures → Reply → Figures → Case
-replays words before reply after = record { trace = spelled words; rest = 30; before = before; reply = reply; after = after }
+replays = under (ruled 30)
+
+abbrev splits : List ℕ → Figures → Reply → Figures → Case
+splits = under (split 900 1800)
 
 unfoldable right : Case → Bool
 unfolding wordAt noneAbove sameEach firstOf lowest firstBroken badRules badFigures recordsFrom pausedBefore joined afterEach isOdd isPast isStopped figuresAfter
 right c =
-    sameReply (replayReply (c .trace) (ruled (c .rest)) (c .before)) (c .reply)
-    && sameEach (wheelFigures (figuresAfter (c .trace) (ruled (c .rest)) (c .before))) (wheelFigures (c .after))
+    sameReply (replayReply (c .trace) (c .rules) (c .before)) (c .reply)
+    && sameEach (driverFigures (figuresAfter (c .trace) (c .rules) (c .before))) (driverFigures (c .after))
 
 abbrev cases : List Case
 cases =
@@ -68,9 +98,49 @@ cases =
     ∷ replays (1 ∷ 1000001 ∷ []) (figures 5 7) (refusedAt 22 1) (figures 5 7)
     ∷ replays (1 ∷ 96 ∷ 3 ∷ 1 ∷ []) (figures 5 7) (refusedAt 23 1) (figures 5 7)
     -- 21 before them, 11 before it, 10 before that
-    ∷ record { trace = 3 ∷ []; rest = 30; before = figures 5 7; reply = refusedAt 21 1; after = figures 5 7 }
-    ∷ record { trace = 3 ∷ []; rest = 30; before = figures 8 7; reply = refusedAt 11 5; after = figures 8 7 }
-    ∷ record { trace = 3 ∷ []; rest = 9; before = figures 8 7; reply = refusedAt 10 9; after = figures 8 7 }
+    ∷ record { trace = 3 ∷ []; rules = ruled 30; before = figures 5 7; reply = refusedAt 21 1; after = figures 5 7 }
+    ∷ record { trace = 3 ∷ []; rules = ruled 30; before = figures 8 7; reply = refusedAt 11 5; after = figures 8 7 }
+    ∷ record { trace = 3 ∷ []; rules = ruled 9; before = figures 8 7; reply = refusedAt 10 9; after = figures 8 7 }
+    -- no split: a lent mark stays over a pause below the break; a break clears it, and so does a rest
+    ∷ replays (2 ∷ 9 ∷ []) (marked 5 7) (succeeded 1 0) (marked 5 7)
+    ∷ replays (2 ∷ 10 ∷ []) (marked 5 7) (succeeded 1 0) (figures 0 7)
+    ∷ replays (2 ∷ 30 ∷ []) (marked 5 7) (succeeded 1 0) (figures 0 0)
+    -- a split, unmarked: below the first part, as long as it, as long as the second, below the break, and as long as that
+    ∷ splits (2 ∷ 899 ∷ []) (figures 5000 7000) (succeeded 1 0) (figures 5000 7000)
+    ∷ splits (2 ∷ 900 ∷ []) (figures 5000 7000) (succeeded 1 0) (marked 5000 7000)
+    ∷ splits (2 ∷ 1800 ∷ []) (figures 5000 7000) (succeeded 1 0) (marked 5000 7000)
+    ∷ splits (2 ∷ 2699 ∷ []) (figures 5000 7000) (succeeded 1 0) (marked 5000 7000)
+    ∷ splits (2 ∷ 2700 ∷ []) (figures 5000 7000) (succeeded 1 0) (figures 0 7000)
+    -- marked: below the first part, below the second, as long as it, as long as the break, and as long as the rest
+    ∷ splits (2 ∷ 899 ∷ []) (marked 5000 7000) (succeeded 1 0) (marked 5000 7000)
+    ∷ splits (2 ∷ 1799 ∷ []) (marked 5000 7000) (succeeded 1 0) (marked 5000 7000)
+    ∷ splits (2 ∷ 1800 ∷ []) (marked 5000 7000) (succeeded 1 0) (figures 0 7000)
+    ∷ splits (2 ∷ 2700 ∷ []) (marked 5000 7000) (succeeded 1 0) (figures 0 7000)
+    ∷ splits (2 ∷ 39600 ∷ []) (marked 5000 7000) (succeeded 1 0) (figures 0 0)
+    -- neighbouring pauses are judged whole, with the mark from before them
+    ∷ splits (2 ∷ 900 ∷ 2 ∷ 900 ∷ []) (figures 5000 7000) (succeeded 2 0) (marked 5000 7000)
+    ∷ splits (2 ∷ 900 ∷ 2 ∷ 1799 ∷ []) (figures 5000 7000) (succeeded 2 0) (marked 5000 7000)
+    ∷ splits (2 ∷ 900 ∷ 2 ∷ 1800 ∷ []) (figures 5000 7000) (succeeded 2 0) (figures 0 7000)
+    ∷ splits (2 ∷ 1000 ∷ 2 ∷ 800 ∷ []) (marked 5000 7000) (succeeded 2 0) (figures 0 7000)
+    -- a first part, other work or driving, and a second part; then the mark is gone, and the next part is a first one
+    ∷ splits (2 ∷ 900 ∷ 0 ∷ 60 ∷ 2 ∷ 1800 ∷ []) (figures 5000 7000) (succeeded 3 0) (figures 0 7000)
+    ∷ splits (2 ∷ 900 ∷ 1 ∷ 60 ∷ 2 ∷ 1800 ∷ []) (figures 5000 7000) (succeeded 3 0) (figures 0 7060)
+    ∷ splits (2 ∷ 900 ∷ 0 ∷ 60 ∷ 2 ∷ 900 ∷ []) (figures 5000 7000) (succeeded 3 0) (marked 5000 7000)
+    ∷ splits (2 ∷ 1800 ∷ 1 ∷ 60 ∷ 2 ∷ 1800 ∷ []) (marked 5000 7000) (succeeded 3 0) (marked 60 7060)
+    -- driving and other work keep the mark
+    ∷ splits (1 ∷ 60 ∷ 0 ∷ 60 ∷ []) (marked 5000 7000) (succeeded 2 0) (marked 5060 7060)
+    ∷ splits (1 ∷ 60 ∷ 0 ∷ 60 ∷ []) (figures 5000 7000) (succeeded 2 0) (figures 5060 7060)
+    -- a refused trace leaves it
+    ∷ splits (2 ∷ 1800 ∷ 3 ∷ 1 ∷ []) (marked 5000 7000) (refusedAt 22 2) (marked 5000 7000)
+    ∷ splits (2 ∷ 1800 ∷ 1 ∷ 16201 ∷ []) (marked 5000 7000) (refusedAt 23 2) (marked 5000 7000)
+    ∷ splits (2 ∷ 900 ∷ 1 ∷ 11201 ∷ []) (figures 5000 7000) (refusedAt 23 2) (figures 5000 7000)
+    -- a second part that is shorter than the first, marked and not
+    ∷ under (split 1800 900) (2 ∷ 900 ∷ []) (marked 5000 7000) (succeeded 1 0) (figures 0 7000)
+    ∷ under (split 1800 900) (2 ∷ 1799 ∷ []) (figures 5000 7000) (succeeded 1 0) (figures 5000 7000)
+    -- 10: a lone zero, and a part above the break
+    ∷ under (split 0 1800) [] (marked 5000 7000) (refusedAt 10 10) (marked 5000 7000)
+    ∷ under (split 900 0) [] (figures 5000 7000) (refusedAt 10 11) (figures 5000 7000)
+    ∷ under (split 2701 1800) [] (figures 5000 7000) (refusedAt 10 10) (figures 5000 7000)
     ∷ []
 
 worked : T (every right cases)

@@ -9,7 +9,7 @@ ghost use Rattle.replies.specs.Told.{succeeded, toldCheck};
 ghost use Rattle.driving.specs.Accepted.{SoundRules, SoundFigures};
 ghost use Rattle.driving.specs.Hours.{wheelFigures, wheelLimits};
 ghost use Rattle.replay.specs.Trace.{traceRecordBytes, traceRecordAt};
-ghost use Rattle.replay.specs.Replay.{afterPause, isOdd, Replayed};
+ghost use Rattle.replay.specs.Replay.{afterShortPause, afterPause, isOdd, Replayed};
 ghost use Rattle.replay.specs.Steps.{startTests, lengthened, Sound, stepOn, stepped, WalkSays, TraceSays};
 use driving::Figures;
 use driving::Rules;
@@ -79,6 +79,22 @@ fn is_odd(taken: TraceRecord) -> bool
     TraceRecord::MOST_SECONDS < taken.seconds
 }
 
+// The figures after a whole pause that is shorter than the break: it may be a part of one.
+fn after_short_pause(figures: Figures, rules: Rules, seconds: u32) -> Figures
+    ensures { λ r. ⌜ r ≡ afterShortPause rules seconds figures ⌝ }
+{
+    if !driving::has_split(rules) {
+        return figures;
+    }
+    if figures.marked && rules.second_part.0 <= seconds {
+        return driving::cleared(figures, Rules::SECOND_PART);
+    }
+    if rules.first_part.0 <= seconds {
+        return driving::cleared(figures, Rules::FIRST_PART);
+    }
+    figures
+}
+
 // The figures after a whole pause.
 fn after_pause(figures: Figures, rules: Rules, seconds: u32) -> Figures
     ensures { λ r. ⌜ r ≡ afterPause rules seconds figures ⌝ }
@@ -89,7 +105,7 @@ fn after_pause(figures: Figures, rules: Rules, seconds: u32) -> Figures
     if rules.break_time.0 <= seconds {
         return driving::cleared(figures, Rules::BREAK);
     }
-    figures
+    after_short_pause(figures, rules, seconds)
 }
 
 // A pause that goes on. Nothing asks for a longer one than the longest break or rest, so the sum stops there and never wraps.

@@ -1,5 +1,5 @@
 -- Rank is a total order, equal states are told apart from others, and covering is a preorder that ranks no higher. Assumes nothing.
-use mathlib.Core.Path.{_≡_, refl, ap, _∙_}
+use mathlib.Core.Path.{_≡_, refl, sym, ap, _∙_}
 use mathlib.Core.Bool.{true, false}
 use mathlib.Core.List.{List, [], _∷_}
 use Prim.Native.Nat.{ℕ, _≤_, _<_}
@@ -10,23 +10,27 @@ use lib.ListN.{getD}
 use Rattle.booleans.proofs.Tests.{T-true, true-T, and-l, and-r, and-i}
 use Rattle.theory.specs.Lists.{Order, Decides}
 use Rattle.theory.specs.Figures.{noneAbove}
-use Rattle.theory.proofs.Figures.{above-end, above-head, above-more, above-self, above-trans, above-both, above-rank, same-self, same-lists, rank-trans, rank-total, rank-antisym, rank-below, rank-head}
+use Rattle.theory.proofs.Figures.{above-end, above-head, above-more, above-self, above-trans, above-both, above-first, above-rank, same-self, same-lists, rank-trans, rank-total, rank-antisym, rank-below, rank-head}
 use Rattle.driving.specs.declared.Order as order
+use Rattle.driving.proofs.Hours.{mark-told}
 use Rattle.states.specs.declared.State.{State}
-use Rattle.states.specs.States.{figuresOf, limitsOf, rankFigures, legal, sameState, covers, ranksNoHigher}
+use Rattle.states.specs.States.{figuresOf, timesOf, limitsOf, rankFigures, legal, sameState, covers, ranksNoHigher}
 
 -- states with equal figures at equal junctions are equal
 pub state-path : (b a : State) → rankFigures b ≡ rankFigures a → b ≡ a
 state-path b a e =
     λ i.
     record {
-      junction = at 3 i;
+      junction = at 4 i;
       clock = record { 0 = at 0 i };
-      figures = record { spell = record { 0 = at 1 i }; shift = record { 0 = at 2 i } };
+      figures = record { spell = record { 0 = at 1 i }; shift = record { 0 = at 2 i }; marked = same-mark i };
     }
   where
     at : (k : ℕ) → getD (rankFigures b) k 0 ≡ getD (rankFigures a) k 0
     at k = ap (λ (l : List ℕ). getD l k 0) e
+
+    same-mark : b .figures .marked ≡ a .figures .marked
+    same-mark = sym (mark-told (b .figures .marked)) ∙ ap (λ (x : ℕ). eqb x 0) (at 3) ∙ mark-told (a .figures .marked)
 
 -- rank is a total order
 pub rank-order : Order ranksNoHigher
@@ -97,13 +101,17 @@ pub covers-trans : (c b a : State) → T (covers c b) → T (covers b a) → T (
 covers-trans c b a p q =
     covers-made c a (covers-junction c b p ∙ covers-junction b a q) (above-trans (figuresOf c) (figuresOf b) (figuresOf a) (covers-figures c b p) (covers-figures b a q))
 
+-- what has no figure above another's has no time above it
+pub times-above : (b a : State) → T (noneAbove (figuresOf b) (figuresOf a)) → T (noneAbove (timesOf b) (timesOf a))
+times-above b a t = above-first (timesOf b) (timesOf a) _ _ refl t
+
 -- legal figures, as facts
 module _ (o : order.Order) (s : State) where
-  pub legal-within : legal o s ≡ true → T (noneAbove (figuresOf s) (limitsOf o))
+  pub legal-within : legal o s ≡ true → T (noneAbove (timesOf s) (limitsOf o))
   unfolding legal
   legal-within e = true-T e
 
-  pub within-legal : T (noneAbove (figuresOf s) (limitsOf o)) → legal o s ≡ true
+  pub within-legal : T (noneAbove (timesOf s) (limitsOf o)) → legal o s ≡ true
   unfolding legal
   within-legal t = T-true t
 

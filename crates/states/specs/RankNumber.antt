@@ -3,7 +3,7 @@ use Prim.Native.Nat.{ℕ, _+_, _^_}
 use lib.Dec.{T}
 use lib.ListN.{length}
 use Rattle.theory.specs.Numbers.{asNumber, allBelow}
-use Rattle.driving.specs.Hours.{highestLimits}
+use Rattle.driving.specs.Hours.{highestFigures}
 use Rattle.states.specs.declared.State.{State}
 use Rattle.states.specs.States.{rankFigures}
 
@@ -19,6 +19,6 @@ Small s = T (allBelow wordBase (rankFigures s))
 unfoldable pub rankNumber : State → ℕ
 rankNumber s = asNumber wordBase (rankFigures s)
 
--- above every such number: clock, the wheel figures, junction
+-- above every such number: clock, the driver's figures, junction
 unfoldable pub rankTop : ℕ
-rankTop = wordBase ^ (length highestLimits + 2)
+rankTop = wordBase ^ (length highestFigures + 2)

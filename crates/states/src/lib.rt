@@ -22,11 +22,12 @@ impl State {
         figures: Figures {
             spell: Wheel(0),
             shift: Wheel(0),
+            marked: false,
         },
     };
 
     // The words that a label takes: its state, and how the search goes on from it.
-    pub const LABEL_WORDS: usize = 8;
+    pub const LABEL_WORDS: usize = 9;
 
     pub const MOST_LABELS: usize = 1000000;
 }
@@ -79,7 +80,12 @@ pub fn covers(b: State, a: State) -> bool
     if a.figures.spell.0 < b.figures.spell.0 {
         return false;
     }
-    b.figures.shift.0 <= a.figures.shift.0
+    if a.figures.shift.0 < b.figures.shift.0 {
+        return false;
+    }
+    let b_mark = driving::unmarked(b.figures);
+    let a_mark = driving::unmarked(a.figures);
+    b_mark <= a_mark
 }
 
 // Whether b ranks no higher than a.
@@ -95,6 +101,11 @@ pub fn ranks_no_higher(b: State, a: State) -> bool
     if b.figures.shift.0 != a.figures.shift.0 {
         return b.figures.shift.0 < a.figures.shift.0;
     }
+    let b_mark = driving::unmarked(b.figures);
+    let a_mark = driving::unmarked(a.figures);
+    if b_mark != a_mark {
+        return b_mark < a_mark;
+    }
     b.junction <= a.junction
 }
 
@@ -108,6 +119,11 @@ pub fn same_state(b: State, a: State) -> bool
         return false;
     }
     if b.figures.shift.0 != a.figures.shift.0 {
+        return false;
+    }
+    let b_mark = driving::unmarked(b.figures);
+    let a_mark = driving::unmarked(a.figures);
+    if b_mark != a_mark {
         return false;
     }
     b.junction == a.junction

@@ -4,8 +4,8 @@
 // words of label space, and the lengths of map, order and sheet), the map, the order, the sheet. The
 // number is the junction asked for a name, the junction count for an order, the length of the lent
 // sheet for retiming, and for planning what every label word holds beforehand. The sheet of planning
-// is the one that is lent. For replaying, the order's place has an order's words 4 to 9 alone, and the
-// sheet's place the trace.
+// is the one that is lent. For replaying, the order's place has an order's words 4 to 11 alone, the
+// number is 0 without the mark and 1 with it, and the sheet's place has the trace.
 ghost use Prim.Native.Nat.{_≤_, _<_};
 ghost use lib.ListN.{length};
 use driving::Figures;
@@ -22,8 +22,8 @@ const CASE_BYTES: usize = 262144;
 // The five words of a case.
 const HEADER_BYTES: usize = 20;
 
-// The driver's figures and the rules: an order's words 4 to 9.
-const HOURS_BYTES: usize = 24;
+// The driver's figures and the rules: an order's words 4 to 11.
+const HOURS_BYTES: usize = 32;
 
 // Refusals below this number are given before the search, and leave the label space as it was.
 const FIRST_OF_SEARCH: u32 = 12;
@@ -151,19 +151,22 @@ fn run_on_sheet(case: Case, map: &[u8], order: &[u8], sheet: &[u8], space: &mut 
 }
 
 // Prints the reply, and the figures afterwards.
-fn run_replay(hours: &[u8], trace: &[u8]) {
+fn run_replay(marked: bool, hours: &[u8], trace: &[u8]) {
     if hours.len() != HOURS_BYTES {
         return;
     }
     let figures = Figures {
         spell: Wheel(words::word(hours, 0)),
         shift: Wheel(words::word(hours, 4)),
+        marked,
     };
     let rules = Rules {
         spell_limit: Wheel(words::word(hours, 8)),
         break_time: Clock(words::word(hours, 12)),
         shift_limit: Wheel(words::word(hours, 16)),
         rest_time: Clock(words::word(hours, 20)),
+        first_part: Clock(words::word(hours, 24)),
+        second_part: Clock(words::word(hours, 28)),
     };
     let outcome = replay::replay_from(trace, rules, figures);
     let answer = outcome.answer;
@@ -173,6 +176,11 @@ fn run_replay(hours: &[u8], trace: &[u8]) {
     print_number(after.spell.0 as u64);
     print(b" ");
     print_number(after.shift.0 as u64);
+    if after.marked {
+        print(b" 1");
+    } else {
+        print(b" 0");
+    }
 }
 
 // Where a refusal came before the search, whether every label word is as it was.
@@ -251,7 +259,7 @@ fn run(
         return;
     }
     if case.kind == b't' {
-        run_replay(&bytes[order..sheet], &bytes[sheet..end]);
+        run_replay(case.number != 0, &bytes[order..sheet], &bytes[sheet..end]);
         return;
     }
     run_on_sheet(

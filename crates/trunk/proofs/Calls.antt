@@ -7,7 +7,7 @@ use native.Mathlib.Omega.{arith}
 use borrow.Author.Tests.{ne-eqb}
 use lib.Dec.{eqb}
 use lib.ListN.{length, getD, set, take, drop, length-set}
-use lib.Seq.{getD-set-same, getD-set-other, set-getD}
+use lib.Seq.{getD-set-same, getD-set-other}
 use Rattle.replies.specs.declared.Check.{Check}
 use Rattle.replies.specs.declared.Planning.{Planning}
 use Rattle.replies.specs.declared.Refusal.{Refusal}
@@ -23,11 +23,10 @@ use Rattle.mapedit.specs.Chaining.{ChainMaking}
 use Rattle.mapedit.proofs.Named.{length-named}
 use Rattle.driving.specs.declared.Figures.{Figures}
 use Rattle.replay.specs.Replay.{Replayed}
-use Rattle.replay.proofs.Replays.{left-refused}
 use Rattle.retiming.specs.Retiming.{Retimed}
 use Rattle.planner.specs.Planned.{Planned}
-use Rattle.trunk.specs.Written.{replyPut, partPut, rulesIn, figuresIn, figuresPut}
-use Rattle.trunk.specs.Calls.{JudgingCall, PlanCall, RetimeCall, NameCall, ChainsCall, ReplayCall, namePut}
+use Rattle.trunk.specs.Written.{replyPut, partPut, rulesIn, figuresIn}
+use Rattle.trunk.specs.Calls.{JudgingCall, PlanCall, RetimeCall, NameCall, ChainsCall, ReplayCall, namePut, figuresLeft}
 
 -- nothing is written
 module _ {reply : List ℕ} (short : length reply < 3) where
@@ -55,11 +54,11 @@ pub name-short-part : {part : List ℕ} → length part < 2 → (map : List ℕ)
 name-short-part short map junction reply =
     record { short = λ _. (refl, refl); short-part = λ _. (refl, refl); told = λ _ room. absurd (omega arith) }
 
-pub replay-short-rules : {rules : List ℕ} → length rules < 4 → (trace figures reply : List ℕ) → ReplayCall trace rules figures figures reply reply
+pub replay-short-rules : {rules : List ℕ} → length rules < 6 → (trace figures reply : List ℕ) → ReplayCall trace rules figures figures reply reply
 replay-short-rules short trace figures reply =
     record { short = λ _. (refl, refl); short-rules = λ _. (refl, refl); short-figures = λ _. (refl, refl); told = λ _ room _. absurd (omega arith) }
 
-pub replay-short-figures : {figures : List ℕ} → length figures < 2 → (trace rules reply : List ℕ) → ReplayCall trace rules figures figures reply reply
+pub replay-short-figures : {figures : List ℕ} → length figures < 3 → (trace rules reply : List ℕ) → ReplayCall trace rules figures figures reply reply
 replay-short-figures short trace rules reply =
     record { short = λ _. (refl, refl); short-rules = λ _. (refl, refl); short-figures = λ _. (refl, refl); told = λ _ _ room. absurd (omega arith) }
 
@@ -91,8 +90,8 @@ module _ {reply reply′ : List ℕ} {told : Reply} (room : 3 ≤ length reply) 
   chains-told {answer = answer} is made =
       record { short = λ short. absurd (omega arith); told = λ _. (answer, made, written ∙ ap (replyPut reply) is) }
 
-  pub replay-told : {trace rules figures figures′ : List ℕ} {answer : Replaying} {after : Figures} → 4 ≤ length rules → 2 ≤ length figures → told ≡ toldReplaying answer
-      → Replayed trace (rulesIn rules) (figuresIn figures) after answer → figures′ ≡ figuresPut figures after → ReplayCall trace rules figures figures′ reply reply′
+  pub replay-told : {trace rules figures figures′ : List ℕ} {answer : Replaying} {after : Figures} → 6 ≤ length rules → 3 ≤ length figures → told ≡ toldReplaying answer
+      → Replayed trace (rulesIn rules) (figuresIn figures) after answer → figures′ ≡ figuresLeft (toldReplaying answer) figures after → ReplayCall trace rules figures figures′ reply reply′
   replay-told {answer = answer} {after = after} enough-rules enough-figures is replayed put =
       record {
         short = λ short. absurd (omega arith);
@@ -132,7 +131,6 @@ part-spells map junction part room =
     spells-so (eqb (nameReply map junction .number) 0) map part (nameAt map junction) (nameLength map junction) room
 
 -- a refused trace leaves every word of the lent figures
-pub replay-leaves : (trace rules figures : List ℕ) {figures′ : List ℕ} {answer : Replaying} {after : Figures} → Replayed trace (rulesIn rules) (figuresIn figures) after answer
-    → figures′ ≡ figuresPut figures after → ¬ (toldReplaying answer .number ≡ 0) → figures′ ≡ figures
-replay-leaves trace rules figures replayed put refused =
-    put ∙ ap (figuresPut figures) (left-refused replayed refused) ∙ ap (λ (words : List ℕ). set words 1 (getD figures 1 0)) (set-getD figures 0 0) ∙ set-getD figures 1 0
+pub replay-leaves : {figures figures′ : List ℕ} (answer : Replaying) (after : Figures) → figures′ ≡ figuresLeft (toldReplaying answer) figures after
+    → ¬ (toldReplaying answer .number ≡ 0) → figures′ ≡ figures
+replay-leaves answer after left refused = rw (ne-eqb (toldReplaying answer .number) 0 refused) at left

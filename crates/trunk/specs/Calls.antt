@@ -68,11 +68,15 @@ pub record ChainsCall (map map′ reply reply′ : List ℕ) : Type 0 where
   pub told : 3 ≤ length reply
       → (answer : Check) × ChainMaking map map′ answer × (reply′ ≡ replyPut reply (toldCheck answer))
 
--- lent rules of fewer than four words, or figures of fewer than two, are as a reply with no room for three
+-- the lent figures afterwards: up to date where the trace is accepted; a refused one leaves every word
+abbrev pub figuresLeft : Reply → List ℕ → Figures → List ℕ
+figuresLeft reply figures after = pick (eqb (reply .number) 0) (figuresPut figures after) figures
+
+-- lent rules of fewer than six words, or figures of fewer than three, are as a reply with no room for three
 pub record ReplayCall (trace rules figures figures′ reply reply′ : List ℕ) : Type 0 where
   pub short : length reply < 3 → (figures′ ≡ figures) × (reply′ ≡ reply)
-  pub short-rules : length rules < 4 → (figures′ ≡ figures) × (reply′ ≡ reply)
-  pub short-figures : length figures < 2 → (figures′ ≡ figures) × (reply′ ≡ reply)
-  pub told : 3 ≤ length reply → 4 ≤ length rules → 2 ≤ length figures
+  pub short-rules : length rules < 6 → (figures′ ≡ figures) × (reply′ ≡ reply)
+  pub short-figures : length figures < 3 → (figures′ ≡ figures) × (reply′ ≡ reply)
+  pub told : 3 ≤ length reply → 6 ≤ length rules → 3 ≤ length figures
       → (answer : Replaying) × (after : Figures) × Replayed trace (rulesIn rules) (figuresIn figures) after answer
-      × (figures′ ≡ figuresPut figures after) × (reply′ ≡ replyPut reply (toldReplaying answer))
+      × (figures′ ≡ figuresLeft (toldReplaying answer) figures after) × (reply′ ≡ replyPut reply (toldReplaying answer))

@@ -1,6 +1,8 @@
 -- Where a caller of the library finds the reply, the place of a name, rules and figures. Assumes nothing.
+use mathlib.Core.Bool.{Bool, true, false, not}
 use mathlib.Core.List.{List}
 use Prim.Native.Nat.{ℕ}
+use lib.Dec.{eqb}
 use lib.ListN.{getD, set}
 use Rattle.replies.specs.declared.Reply.{Reply}
 use Rattle.driving.specs.declared.Figures.{Figures}
@@ -14,7 +16,7 @@ replyPut lent reply = set (set (set lent 0 (reply .number)) 1 (reply .place)) 2 
 abbrev pub partPut : List ℕ → ℕ → ℕ → List ℕ
 partPut lent from length = set (set lent 0 from) 1 length
 
--- rules, as words 6 to 9 of an order: spell limit, break, shift limit, rest; the words after them are not read
+-- rules, as words 6 to 11 of an order: spell limit, break, shift limit, rest, first part, second part; the words after them are not read
 abbrev pub rulesIn : List ℕ → Rules
 rulesIn words =
     record {
@@ -22,11 +24,23 @@ rulesIn words =
       «break_time» = record { 0 = getD words 1 0 };
       «shift_limit» = record { 0 = getD words 2 0 };
       «rest_time» = record { 0 = getD words 3 0 };
+      «first_part» = record { 0 = getD words 4 0 };
+      «second_part» = record { 0 = getD words 5 0 };
     }
 
--- figures, as words 4 and 5 of an order: spell, shift; the words after them stay
+-- figures: spell, shift, and the mark, which any number but 0 stands for; the words after them are not read
 abbrev pub figuresIn : List ℕ → Figures
-figuresIn words = record { spell = record { 0 = getD words 0 0 }; shift = record { 0 = getD words 1 0 } }
+figuresIn words =
+    record {
+      spell = record { 0 = getD words 0 0 };
+      shift = record { 0 = getD words 1 0 };
+      marked = not (eqb (getD words 2 0) 0);
+    }
 
+abbrev pub markWord : Bool → ℕ
+markWord true = 1
+markWord false = 0
+
+-- the same written; the words after them stay
 abbrev pub figuresPut : List ℕ → Figures → List ℕ
-figuresPut words f = set (set words 0 (f .spell .0)) 1 (f .shift .0)
+figuresPut words f = set (set (set words 0 (f .spell .0)) 1 (f .shift .0)) 2 (markWord (f .marked))

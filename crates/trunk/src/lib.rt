@@ -6,8 +6,8 @@ ghost use Prim.Native.Nat.{_≤_};
 ghost use lib.ListN.{length};
 ghost use Rattle.replies.specs.Told.{toldName};
 ghost use Rattle.mapedit.specs.Name.{nameReply};
-ghost use Rattle.trunk.specs.Written.{replyPut, rulesIn, figuresIn, figuresPut};
-ghost use Rattle.trunk.specs.Calls.{MapCheckCall, OrderCheckCall, PlanCall, RetimeCall, AuditCall, NameCall, ChainsCall, ReplayCall, namePut};
+ghost use Rattle.trunk.specs.Written.{replyPut, rulesIn, figuresIn, markWord, figuresPut};
+ghost use Rattle.trunk.specs.Calls.{MapCheckCall, OrderCheckCall, PlanCall, RetimeCall, AuditCall, NameCall, ChainsCall, ReplayCall, namePut, figuresLeft};
 use driving::Figures;
 use driving::Rules;
 use replies::NameReply;
@@ -20,10 +20,10 @@ const REPLY_NUMBERS: usize = 3;
 
 const PART_NUMBERS: usize = 2;
 
-// What rules and figures take of lent runs: words 6 to 9, and 4 and 5, of an order.
-const RULE_WORDS: usize = 4;
+// What rules and figures take of lent runs: words 6 to 11 of an order; spell, shift and the mark.
+const RULE_WORDS: usize = 6;
 
-const FIGURE_WORDS: usize = 2;
+const FIGURE_WORDS: usize = 3;
 
 fn put_reply(lent: &mut [u64], reply: Reply)
     requires { ⌜ 3 ≤ length (now lent) ⌝ }
@@ -154,7 +154,7 @@ pub extern "C" fn trunk_make_chains(map: &mut [u8], reply: &mut [u64])
 }
 
 fn read_rules(words: &[u32]) -> Rules
-    requires { ⌜ 4 ≤ length (now words) ⌝ }
+    requires { ⌜ 6 ≤ length (now words) ⌝ }
     ensures { λ r. ⌜ r ≡ rulesIn (now (words .entry)) ⌝ }
 {
     Rules {
@@ -162,25 +162,47 @@ fn read_rules(words: &[u32]) -> Rules
         break_time: Clock(words[1]),
         shift_limit: Wheel(words[2]),
         rest_time: Clock(words[3]),
+        first_part: Clock(words[4]),
+        second_part: Clock(words[5]),
     }
 }
 
 fn read_figures(words: &[u32]) -> Figures
-    requires { ⌜ 2 ≤ length (now words) ⌝ }
+    requires { ⌜ 3 ≤ length (now words) ⌝ }
     ensures { λ r. ⌜ r ≡ figuresIn (now (words .entry)) ⌝ }
 {
     Figures {
         spell: Wheel(words[0]),
         shift: Wheel(words[1]),
+        marked: words[2] != 0,
     }
 }
 
+fn mark_word(marked: bool) -> u32
+    ensures { λ r. ⌜ r ≡ markWord marked ⌝ }
+{
+    if marked { 1 } else { 0 }
+}
+
 fn put_figures(words: &mut [u32], figures: Figures)
-    requires { ⌜ 2 ≤ length (now words) ⌝ }
+    requires { ⌜ 3 ≤ length (now words) ⌝ }
     ensures { λ _. ⌜ now (words .exit) ≡ figuresPut (now (words .entry)) figures ⌝ }
 {
+    let mark = mark_word(figures.marked);
     words[0] = figures.spell.0;
     words[1] = figures.shift.0;
+    words[2] = mark;
+}
+
+// A refused trace leaves every word of the lent figures, also a mark that is not spelled as the library would.
+fn leave_figures(words: &mut [u32], told: Reply, figures: Figures)
+    requires { ⌜ 3 ≤ length (now words) ⌝ }
+    ensures { λ _. ⌜ now (words .exit) ≡ figuresLeft told (now (words .entry)) figures ⌝ }
+{
+    if told.number != 0 {
+        return;
+    }
+    put_figures(words, figures);
 }
 
 // Replaying a trace.
@@ -201,7 +223,7 @@ pub extern "C" fn trunk_replay(trace: &[u8], rules: &[u32], figures: &mut [u32],
     let outcome = replay::replay_from(trace, read_rules(rules), start);
     let after = outcome.figures;
     let answer = outcome.answer;
-    put_figures(figures, after);
     let told = answer.reply();
+    leave_figures(figures, told, after);
     put_reply(reply, told);
 }

@@ -13,7 +13,8 @@ use Rattle.roadmap.specs.Format.{junctionCount}
 use Rattle.theory.specs.Numbers.{allBelow}
 use Rattle.theory.proofs.Numbers.{small-end, small-more, small-both, small-above}
 use Rattle.driving.specs.declared.Order.{Order}
-use Rattle.driving.specs.Hours.{highestLimits}
+use Rattle.driving.specs.Hours.{highestFigures}
+use Rattle.driving.proofs.Hours.{figures-bounded}
 use Rattle.moves.specs.declared.Run.{Run}
 use Rattle.states.specs.declared.State.{State}
 use Rattle.moves.specs.Trip.{Trip}
@@ -59,7 +60,7 @@ unfolding keyAt
 key-open trip ws zero low live = absurd (omega arith)
 key-open trip ws (suc k) low live = from-open trip _ (suc k) _ live
 
-highest-small : T (allBelow wordBase highestLimits)
+highest-small : T (allBelow wordBase highestFigures)
 unfolding allBelow
 highest-small = tt
 
@@ -68,7 +69,8 @@ module _ (map : List ℕ) (run : Run) (accepted : Accepted map run) where
   pub range-small : (s : State) → InRange (junctionCount map) (run .order) s → Small s
   range-small s R =
       small-both wordBase (figuresOf s) (s .junction ∷ [])
-      (small-more _ _ _ (omega (arith, clock-high _ (run .order) (accepted .ordered) s R)) (small-above wordBase _ highestLimits (figures-high _ (run .order) (accepted .ordered) s R) highest-small))
+      (small-more _ _ _ (omega (arith, clock-high _ (run .order) (accepted .ordered) s R))
+      (small-above wordBase _ highestFigures (figures-bounded (s .figures) (figures-high _ (run .order) (accepted .ordered) s R)) highest-small))
       (small-more _ _ _ (omega (arith, R .high, accepted .sized .junctions, accepted .sized .few-junctions)) (small-end wordBase))
 
   pub result-range : (s : State) (cursor : ℕ) → InRange (junctionCount map) (run .order) s → Names (tripIn map run) s cursor → InRange (junctionCount map) (run .order) (resultAt (tripIn map run) s cursor)

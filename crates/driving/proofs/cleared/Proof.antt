@@ -1,5 +1,5 @@
-use mathlib.Core.Path.{_≡_}
-use native.Mathlib.Omega.{arith}
+use mathlib.Core.Path.{sym}
+use Rattle.driving.proofs.Hours.{spell-cleared}
 use Rattle.driving.proofs.cleared.Statement.{statement}
 use Rattle.driving.proofs.cleared.Tie as tie
 
@@ -7,10 +7,12 @@ returns : tie.Need-returns
 returns c = rw (c .if1 .taken)
 
 returns-2 : tie.Need-returns-2
-returns-2 c =
-    let s = c .before .before in
-    let is-rest : s .args .kind ≡ 3 = omega (arith, s .pre .0, s .pre .1, c .if1 .left) in
-    rw is-rest
+returns-2 c = rw (c .if2 .taken)
+
+returns-3 : tie.Need-returns-3
+returns-3 c =
+    let s = c .before .before .before .before in
+    sym (spell-cleared _ _ (s .pre .0) (s .pre .1) (c .before .if1 .left) (c .if2 .left))
 
 pub cleared-spec : {M : Type 1} → statement M
-cleared-spec = tie.close (tie.spec returns returns-2)
+cleared-spec = tie.close (tie.spec returns returns-2 returns-3)

@@ -7,10 +7,18 @@ returns : tie.Need-returns
 returns c = rw (c .before .if1 .taken)
 
 returns-2 : tie.Need-returns-2
-returns-2 c =
-    let s = c .before .before in
-    let is-rest : s .args .kind ≡ 3 = omega (arith, s .pre .0, s .pre .1, c .before .if1 .left) in
-    rw is-rest
+returns-2 c = rw (c .before .if2 .taken)
+
+returns-3 : tie.Need-returns-3
+returns-3 c = rw (c .before .if3 .taken)
+
+returns-4 : tie.Need-returns-4
+returns-4 c =
+    let third = c .before in
+    let second = third .before in
+    let s = second .before .before in
+    let is-second : s .args .kind ≡ 5 = omega (arith, s .pre .0, s .pre .1, second .before .if1 .left, second .if2 .left, third .if3 .left) in
+    rw is-second
 
 pub pause-time-spec : {M : Type 1} → statement M
-pause-time-spec = tie.close (tie.spec returns returns-2)
+pause-time-spec = tie.close (tie.spec returns returns-2 returns-3 returns-4)

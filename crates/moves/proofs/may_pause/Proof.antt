@@ -1,9 +1,6 @@
-use mathlib.Core.Path.{_∙_, sym, ap}
-use Prim.Native.Nat.{ℕ}
 use borrow.Author.Needs.{needs}
-use borrow.Author.Tests.{le-leb, lt-leb}
-use lib.Dec.{eqb}
-use Rattle.moves.proofs.Trips.{park-in}
+use borrow.Author.Tests.{le-leb, lt-leb, eq-eqb, ne-eqb}
+use Rattle.moves.proofs.Trips.{order-in, park-in}
 use Rattle.moves.proofs.may_pause.Statement.{statement}
 use Rattle.moves.proofs.may_pause.Tie as tie
 
@@ -15,10 +12,18 @@ returns-2 c = rw (le-leb _ _ (c .before .if1 .left), lt-leb _ _ (c .if2 .taken))
 
 returns-3 : tie.Need-returns-3
 returns-3 c =
-    let s = c .before .before .before .before .before in
-    rw (le-leb _ _ (c .before .before .if1 .left), le-leb _ _ (c .before .if2 .left))
-    (ap (λ (x : ℕ). eqb x 1) (c .car-park .ensures)
-    ∙ sym (park-in (s .args .map .now) (s .args .run .order) (s .args .state .junction) (s .pre .1 .low) (s .pre .1 .high)))
+    let asked = c .before in
+    let s = asked .before .before .before .before .before in
+    let a = s .args in
+    rw (le-leb _ _ (asked .before .before .if1 .left), le-leb _ _ (asked .before .if2 .left), park-in (a .map .now) (a .run .order) (a .state .junction) (s .pre .1 .low) (s .pre .1 .high), ← asked .car-park .ensures, ne-eqb _ _ (c .if3 .taken))
+
+returns-4 : tie.Need-returns-4
+returns-4 c =
+    let asked = c .before .before in
+    let s = asked .before .before .before .before .before in
+    let a = s .args in
+    rw (le-leb _ _ (asked .before .before .if1 .left), le-leb _ _ (asked .before .if2 .left), park-in (a .map .now) (a .run .order) (a .state .junction) (s .pre .1 .low) (s .pre .1 .high), ← asked .car-park .ensures, eq-eqb _ _ (c .before .if3 .left), order-in (a .map .now) (a .run .order))
+    (c .allows-pause .ensures)
 
 pub may-pause-spec : {M : Type 1} → statement M
-may-pause-spec = tie.close (tie.spec returns returns-2 (λ c κs. search needs) returns-3)
+may-pause-spec = tie.close (tie.spec returns returns-2 (λ c κs. search needs) returns-3 (λ c κs. search needs) returns-4)

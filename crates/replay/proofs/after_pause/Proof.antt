@@ -2,7 +2,7 @@
 use mathlib.Core.Path.{_∙_, sym}
 use native.Mathlib.Omega.{arith}
 use borrow.Author.Needs.{needs}
-use Rattle.replay.proofs.Joining.{clears-both, clears-spell, clears-nothing}
+use Rattle.replay.proofs.Joining.{clears-both, clears-spell, is-short}
 use Rattle.replay.proofs.after_pause.Statement.{statement}
 use Rattle.replay.proofs.after_pause.Tie as tie
 
@@ -19,9 +19,9 @@ returns-2 c =
 
 returns-3 : tie.Need-returns-3
 returns-3 c =
-    let no-rest = c .before .before in
+    let no-rest = c .before .before .before in
     let args = no-rest .before .before .args in
-    sym (clears-nothing (args .rules) (args .seconds) (args .figures) (omega (arith, no-rest .if1 .left)) (omega (arith, c .if2 .left)))
+    c .after-short-pause .ensures ∙ sym (is-short (args .rules) (args .seconds) (args .figures) (omega (arith, no-rest .if1 .left)) (omega (arith, c .before .if2 .left)))
 
 pub after-pause-spec : {M : Type 1} → statement M
-after-pause-spec = tie.close (tie.spec (λ c κs. search needs) returns (λ c κs. search needs) returns-2 returns-3)
+after-pause-spec = tie.close (tie.spec (λ c κs. search needs) returns (λ c κs. search needs) returns-2 (λ c κs. search needs) returns-3)

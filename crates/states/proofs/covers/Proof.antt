@@ -1,4 +1,6 @@
-use mathlib.Core.Path.{_∙_, sym}
+use mathlib.Core.Path.{_∙_, sym, ap₂}
+use lib.Dec.{leb}
+use borrow.Author.Needs.{needs}
 use Rattle.theory.proofs.Figures.{above-over, above-within, above-last}
 use Rattle.states.proofs.Compared.{covers-other, covers-here}
 use Rattle.states.proofs.covers.Statement.{statement}
@@ -17,9 +19,18 @@ returns-3 c =
 
 returns-4 : tie.Need-returns-4
 returns-4 c =
-    let e = c .before .before in
+    let e = c .before .before .before in
     let d = e .before .before .before in
-    sym (covers-here _ _ (d .before .before .before .if1 .left) ∙ above-within _ _ _ _ (d .if2 .left) ∙ above-within _ _ _ _ (e .if3 .left) ∙ above-last _ _)
+    sym (covers-here _ _ (d .before .before .before .if1 .left) ∙ above-within _ _ _ _ (d .if2 .left) ∙ above-within _ _ _ _ (e .if3 .left) ∙ above-over _ _ _ _ (c .if4 .taken))
+
+returns-5 : tie.Need-returns-5
+returns-5 c =
+    let f = c .before .before in
+    let e = f .before .before .before in
+    let d = e .before .before .before in
+    ap₂ leb (c .before .unmarked .ensures) (c .unmarked2 .ensures)
+    ∙ sym (covers-here _ _ (d .before .before .before .if1 .left) ∙ above-within _ _ _ _ (d .if2 .left) ∙ above-within _ _ _ _ (e .if3 .left) ∙ above-within _ _ _ _ (f .if4 .left) ∙ above-last _ _)
 
 pub covers-spec : {M : Type 1} → statement M
-covers-spec = tie.close (tie.spec returns returns-2 returns-3 returns-4)
+covers-spec =
+    tie.close (tie.spec returns returns-2 returns-3 returns-4 (λ c κs. search needs) (λ c κs. search needs) returns-5)
