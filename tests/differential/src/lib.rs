@@ -1,6 +1,6 @@
 //! The proved library, through its Rust package, as one of the implementations that can stand beside each other.
 
-use other::operations::{NameAnswer, Operations};
+use other::operations::{LentFigures, LentRules, NameAnswer, Operations};
 use other::reply::Reply;
 use trunk::{Figures, Refused, Rules, Timed};
 
@@ -46,17 +46,23 @@ fn named(map: &[u8], junction: u32) -> NameAnswer {
 }
 
 /// The figures are handed back whatever the reply, so that a refusal which changes them shows.
-fn replayed(trace: &[u8], rules: [u32; 4], figures: &mut [u32; 2]) -> Reply {
-    let [spell_limit, break_time, shift_limit, rest_time] = rules;
+fn replayed(trace: &[u8], rules: LentRules, figures: &mut LentFigures) -> Reply {
+    let [spell_limit, break_time, shift_limit, rest_time, first_part, second_part] = rules;
     let rules = Rules {
         spell_limit,
         break_time,
         shift_limit,
         rest_time,
+        first_part,
+        second_part,
     };
-    let [spell, shift] = *figures;
-    let mut lent = Figures { spell, shift };
+    let [spell, shift, mark] = *figures;
+    let mut lent = Figures {
+        spell,
+        shift,
+        marked: mark != 0,
+    };
     let answer = trunk::replay(trace, rules, &mut lent);
-    *figures = [lent.spell, lent.shift];
+    *figures = [lent.spell, lent.shift, lent.marked.into()];
     told(answer, |replayed| (replayed.records, 0))
 }

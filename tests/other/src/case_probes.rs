@@ -140,15 +140,15 @@ fn plan_probes(trusted: &Operations, run: &Run, random: &mut Random) -> Vec<Prob
     let one_less = labels - WORDS_OF_A_LABEL;
     let lengths = [
         (0, exact),
-        (7, exact),
+        (WORDS_OF_A_LABEL - 1, exact),
         (one_less, exact),
         (one_less, 0),
         (labels - 1, exact),
         (labels, exact),
         (labels, exact - 1),
         (labels, exact + random.index(30)),
-        (labels + 7, exact),
-        (labels + 7, SHEET_HEADER_BYTES - 1),
+        (labels + WORDS_OF_A_LABEL - 1, exact),
+        (labels + WORDS_OF_A_LABEL - 1, SHEET_HEADER_BYTES - 1),
         (labels + WORDS_OF_A_LABEL, exact),
         (labels + WORDS_OF_A_LABEL, 0),
         (AMPLE_WORDS, exact),

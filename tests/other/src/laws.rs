@@ -39,7 +39,7 @@ fn label_space_is_free(
         unreachable!("an ample plan is a plan");
     };
     let labels = WORDS_OF_A_LABEL * label_count(&first.reply).unwrap_or(1);
-    for label_words in [labels, labels + 7, AMPLE_WORDS] {
+    for label_words in [labels, labels + WORDS_OF_A_LABEL - 1, AMPLE_WORDS] {
         let other = answer(
             operations,
             &Probe::Plan {
@@ -162,7 +162,7 @@ fn two_parts_are_one(
     let first = replayed(one, replay.figures);
     let expected = match first.reply.number {
         0 => {
-            let figures = [0, 4].map(|offset| word(&first.written, offset) as u32);
+            let figures = [0, 4, 8].map(|offset| word(&first.written, offset) as u32);
             counted_on(replay, &first, replayed(next, figures))
         }
         _ => first,

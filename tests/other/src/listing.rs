@@ -1,7 +1,7 @@
 //! What the program `plan` prints, by document 01's "Trial trips".
 
-use crate::moves::{Move, Trip, BREAK, DRIVE, REST};
-use crate::planning::{plan, Document, WORDS_OF_A_LABEL};
+use crate::moves::{Document, Move, Trip, BREAK, DRIVE, FIRST, REST, SECOND};
+use crate::planning::{plan, WORDS_OF_A_LABEL};
 use crate::sheet::{sheet_bytes, Record, Sheet};
 use crate::words::word;
 
@@ -44,6 +44,8 @@ fn move_line(trip: &Trip, record: &Record) -> String {
         DRIVE => "drive",
         BREAK => "break",
         REST => "rest",
+        FIRST => "first",
+        SECOND => "second",
         _ => panic!("no word for kind {kind}"),
     };
     let reached = match kind {

@@ -8,6 +8,15 @@ use crate::reply::Reply;
 pub const DRIVE: u64 = 1;
 pub const BREAK: u64 = 2;
 pub const REST: u64 = 3;
+pub const FIRST: u64 = 4;
+pub const SECOND: u64 = 5;
+
+/// The mark that a first part sets. The better one stands first, for rank and for dominance.
+#[derive(Clone, Copy, Debug, PartialEq, Eq, PartialOrd, Ord)]
+pub enum Mark {
+    Marked,
+    Unmarked,
+}
 
 /// The fields stand in the order of rank, so that the derived comparison is rank.
 #[derive(Clone, Copy, Debug, PartialEq, Eq, PartialOrd, Ord)]
@@ -15,6 +24,7 @@ pub struct State {
     pub clock: u64,
     pub spell: u64,
     pub shift: u64,
+    pub mark: Mark,
     pub junction: u64,
 }
 
@@ -26,6 +36,7 @@ impl State {
             && self.clock <= other.clock
             && self.spell <= other.spell
             && self.shift <= other.shift
+            && self.mark <= other.mark
     }
 }
 
@@ -57,6 +68,7 @@ impl Trip {
             clock: self.order.departure,
             spell: self.order.spell,
             shift: self.order.shift,
+            mark: Mark::Unmarked,
             junction: self.order.source,
         }
     }
@@ -65,16 +77,38 @@ impl Trip {
     pub fn after(&self, state: &State, step: Move) -> Option<State> {
         match step.kind {
             DRIVE => self.after_drive(state, step.number),
-            BREAK if self.may_pause(state, step.number) => Some(State {
-                clock: state.clock + self.order.break_time,
+            _ if self.may_pause(state, step.number) => self.after_pause(state, step.kind),
+            _ => None,
+        }
+    }
+
+    /// The state after a pause of this kind, wherever it is taken.
+    pub fn after_pause(&self, state: &State, kind: u64) -> Option<State> {
+        let order = &self.order;
+        let later = |seconds| State {
+            clock: state.clock + seconds,
+            ..*state
+        };
+        match kind {
+            BREAK => Some(State {
                 spell: 0,
-                ..*state
+                mark: Mark::Unmarked,
+                ..later(order.break_time)
             }),
-            REST if self.may_pause(state, step.number) => Some(State {
-                clock: state.clock + self.order.rest_time,
+            REST => Some(State {
                 spell: 0,
                 shift: 0,
-                ..*state
+                mark: Mark::Unmarked,
+                ..later(order.rest_time)
+            }),
+            FIRST if order.has_split() => Some(State {
+                mark: Mark::Marked,
+                ..later(order.first_part)
+            }),
+            SECOND if order.has_split() && state.mark == Mark::Marked => Some(State {
+                spell: 0,
+                mark: Mark::Unmarked,
+                ..later(order.second_part)
             }),
             _ => None,
         }
@@ -90,11 +124,21 @@ impl Trip {
             spell: state.spell + road.time(),
             shift: state.shift + road.time(),
             junction: road.to,
+            ..*state
         })
     }
 
     fn may_pause(&self, state: &State, number: u64) -> bool {
         number == state.junction && self.map.junctions[number as usize - 1].car_park == 1
+    }
+
+    /// Every move that some state at a junction may be offered.
+    fn moves_at(&self, junction: u64) -> impl Iterator<Item = Move> {
+        let drives = (1..=self.map.roads.len() as u64).map(|number| (DRIVE, number));
+        let pauses = (BREAK..=SECOND).map(move |kind| (kind, junction));
+        drives
+            .chain(pauses)
+            .map(|(kind, number)| Move { kind, number })
     }
 
     /// Whether a move that leads to this state is legal.
@@ -105,19 +149,28 @@ impl Trip {
     }
 
     /// Every move that the rules offer, with the state after it.
-    pub fn offered_moves(&self, state: &State) -> Vec<(Move, State)> {
-        let drives = (1..=self.map.roads.len() as u64).map(|number| (DRIVE, number));
-        let pauses = [(BREAK, state.junction), (REST, state.junction)];
-        drives
-            .chain(pauses)
-            .map(|(kind, number)| Move { kind, number })
-            .filter_map(|step| Some((step, self.after(state, step)?)))
+    pub fn offered_moves<O: Offer>(&self, state: &State) -> Vec<(Move, State)> {
+        self.moves_at(state.junction)
+            .filter_map(|step| Some((step, O::after(self, state, step)?)))
             .collect()
     }
 
-    pub fn legal_moves(&self, state: &State) -> Vec<(Move, State)> {
-        let mut moves = self.offered_moves(state);
+    pub fn legal_moves<O: Offer>(&self, state: &State) -> Vec<(Move, State)> {
+        let mut moves = self.offered_moves::<O>(state);
         moves.retain(|(_, after)| self.allows(after));
         moves
     }
 }
+
+/// What planning, retiming and audit take a move to do. The default is the documents'; a wrong copy
+/// changes it.
+pub trait Offer: Sized {
+    fn after(trip: &Trip, state: &State, step: Move) -> Option<State> {
+        trip.after(state, step)
+    }
+}
+
+/// What the documents say, with nothing changed.
+pub struct Document;
+
+impl Offer for Document {}

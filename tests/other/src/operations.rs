@@ -1,7 +1,8 @@
 //! Every operation as one value, so that any implementation can stand beside this one. A
 //! library's C functions need only thin functions over slices and one `Operations` of them.
 
-use crate::planning::{plan, Document};
+use crate::moves::Document;
+use crate::planning::plan;
 use crate::replay::replay;
 use crate::reply::Reply;
 use crate::{chains, mapcheck, names, order, retiming};
@@ -15,8 +16,14 @@ pub type PlanFunction = fn(&[u8], &[u8], &mut [u32], &mut [u8]) -> Reply;
 /// Takes map, order, sheet and the other sheet.
 pub type RetimeFunction = fn(&[u8], &[u8], &[u8], &mut [u8]) -> Reply;
 
-/// Takes trace, rules (words 6 to 9 of an order) and figures (words 4 and 5).
-pub type ReplayFunction = fn(&[u8], [u32; 4], &mut [u32; 2]) -> Reply;
+/// Words 6 to 11 of an order.
+pub type LentRules = [u32; 6];
+
+/// Words 4 and 5 of an order, and the mark: 1 with it, 0 without.
+pub type LentFigures = [u32; 3];
+
+/// Takes trace, rules and figures.
+pub type ReplayFunction = fn(&[u8], LentRules, &mut LentFigures) -> Reply;
 
 #[derive(Clone, Copy)]
 pub struct Operations {
@@ -35,8 +42,8 @@ pub const DOCUMENT: Operations = Operations {
     check_map: mapcheck::check_map,
     check_order: order::check_order,
     plan: plan::<Document>,
-    retime: retiming::retime,
-    audit: retiming::audit,
+    retime: retiming::retime::<Document>,
+    audit: retiming::audit::<Document>,
     name: names::name,
     make_chains: chains::make_chains,
     replay: replay::<Document>,

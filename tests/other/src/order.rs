@@ -3,12 +3,14 @@
 use crate::reply::*;
 use crate::words::word;
 
-pub const ORDER_BYTES: usize = 40;
+pub const ORDER_BYTES: usize = 48;
 pub const LATEST_CLOCK: u64 = 2_000_000_000;
 pub const LONGEST_RULE: u64 = 1_000_000;
 
-/// The European figures for words 6 to 9.
-pub const EUROPEAN_RULES: [u64; 4] = [16_200, 2_700, 32_400, 39_600];
+/// Words 6 to 11: spell limit, break, shift limit, rest, first part and second part.
+pub type RuleWords = [u64; 6];
+
+pub const EUROPEAN_RULES: RuleWords = [16_200, 2_700, 32_400, 39_600, 900, 1_800];
 
 #[derive(Clone, Debug, PartialEq, Eq)]
 pub struct Order {
@@ -22,10 +24,12 @@ pub struct Order {
     pub break_time: u64,
     pub shift_limit: u64,
     pub rest_time: u64,
+    pub first_part: u64,
+    pub second_part: u64,
 }
 
 impl Order {
-    /// The order that forty bytes spell.
+    /// The order that 48 bytes spell.
     pub fn read(bytes: &[u8]) -> Order {
         let at = |number: usize| word(bytes, 4 * number);
         Order {
@@ -39,12 +43,14 @@ impl Order {
             break_time: at(7),
             shift_limit: at(8),
             rest_time: at(9),
+            first_part: at(10),
+            second_part: at(11),
         }
     }
 
-    /// An order with these words 6 to 9, and 4 and 5. The others are 0, for want of a trip.
-    pub fn of_hours(rules: [u64; 4], figures: [u64; 2]) -> Order {
-        let [spell_limit, break_time, shift_limit, rest_time] = rules;
+    /// An order with these words 6 to 11, and 4 and 5. The others are 0, for want of a trip.
+    pub fn of_hours(rules: RuleWords, figures: [u64; 2]) -> Order {
+        let [spell_limit, break_time, shift_limit, rest_time, first_part, second_part] = rules;
         let [spell, shift] = figures;
         Order {
             source: 0,
@@ -57,10 +63,12 @@ impl Order {
             break_time,
             shift_limit,
             rest_time,
+            first_part,
+            second_part,
         }
     }
 
-    pub fn words(&self) -> [u64; 10] {
+    pub fn words(&self) -> [u64; 12] {
         [
             self.source,
             self.target,
@@ -72,6 +80,8 @@ impl Order {
             self.break_time,
             self.shift_limit,
             self.rest_time,
+            self.first_part,
+            self.second_part,
         ]
     }
 
@@ -79,8 +89,14 @@ impl Order {
         crate::words::bytes_of(&self.words())
     }
 
-    /// Each rule on words 6 to 9: the word it is charged to, and whether it holds.
-    pub fn rules(&self) -> [(u64, bool); 6] {
+    /// Whether a first and a second part may stand for a break.
+    pub fn has_split(&self) -> bool {
+        self.first_part != 0
+    }
+
+    /// Each rule on words 6 to 11: the word it is charged to, and whether it holds. A lone zero
+    /// among the parts is charged itself.
+    pub fn rules(&self) -> [(u64, bool); 10] {
         [
             (6, 1 <= self.spell_limit),
             (8, self.spell_limit <= self.shift_limit),
@@ -88,6 +104,10 @@ impl Order {
             (7, 1 <= self.break_time),
             (9, self.break_time <= self.rest_time),
             (9, self.rest_time <= LONGEST_RULE),
+            (10, self.first_part <= self.break_time),
+            (10, self.first_part != 0 || self.second_part == 0),
+            (11, self.second_part <= self.break_time),
+            (11, self.second_part != 0 || self.first_part == 0),
         ]
     }
 

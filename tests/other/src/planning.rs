@@ -1,28 +1,29 @@
 //! Planning, written to follow document 01's words and not to be fast: all reachable states are
 //! enumerated first, and everything else is said about that set.
 
+use std::cmp::Ordering;
 use std::collections::{BTreeSet, VecDeque};
 
-use crate::moves::{Move, State, Trip};
+use crate::moves::{Document, Move, Offer, State, Trip};
 use crate::reply::*;
 use crate::sheet::{Record, Sheet};
 
-pub const WORDS_OF_A_LABEL: usize = 8;
+pub const WORDS_OF_A_LABEL: usize = 9;
 pub const MOST_LABELS: usize = 1_000_000;
 
 /// The rules of planning. The defaults are the documents'; a wrong copy changes one of them.
-pub trait Planner {
-    fn moves(trip: &Trip, state: &State) -> Vec<(Move, State)> {
-        trip.legal_moves(state)
-    }
-
+pub trait Planner: Offer {
     fn dominates(one: &State, other: &State) -> bool {
         one.dominates(other)
     }
 
+    fn rank(one: &State, other: &State) -> Ordering {
+        one.cmp(other)
+    }
+
     /// Whether an undominated state is counted in N when there is this answer.
     fn counts(state: &State, answer: &State) -> bool {
-        state <= answer
+        Self::rank(state, answer).is_le()
     }
 
     /// The parent and its move, out of every label's index and move that lead to a label.
@@ -30,13 +31,14 @@ pub trait Planner {
         leading.iter().min().copied()
     }
 
+    fn fitting(label_words: usize) -> usize {
+        labels_that_fit(label_words)
+    }
+
     fn is_full(labels: usize, fitting: usize) -> bool {
         labels > fitting
     }
 }
-
-/// What the documents say, with nothing changed.
-pub struct Document;
 
 impl Planner for Document {}
 
@@ -56,10 +58,10 @@ fn planned<P: Planner>(
 ) -> Result<Reply, Reply> {
     let trip = Trip::open(map, order)?;
     let reachable = reachable_states::<P>(&trip);
-    let answer = answer_of(&trip, &reachable);
+    let answer = answer_of::<P>(&trip, &reachable);
     let labels = labels_of::<P>(&reachable, answer);
     let count = labels.len() as u64;
-    let fitting = labels_that_fit(label_words);
+    let fitting = P::fitting(label_words);
     if P::is_full(labels.len(), fitting) {
         return Err(Reply::refused(FULL, fitting as u64));
     }
@@ -90,7 +92,7 @@ fn spread<P: Planner>(trip: &Trip, most: usize) -> BTreeSet<State> {
         if seen.len() > most {
             break;
         }
-        for (_, after) in P::moves(trip, &state) {
+        for (_, after) in trip.legal_moves::<P>(&state) {
             if seen.insert(after) {
                 waiting.push_back(after);
             }
@@ -100,15 +102,17 @@ fn spread<P: Planner>(trip: &Trip, most: usize) -> BTreeSet<State> {
 }
 
 /// The lowest-ranked reachable state at target.
-pub fn answer_of<'a>(trip: &Trip, reachable: &'a BTreeSet<State>) -> Option<&'a State> {
+pub fn answer_of<'a, P: Planner>(trip: &Trip, reachable: &'a BTreeSet<State>) -> Option<&'a State> {
     reachable
         .iter()
-        .find(|state| state.junction == trip.order.target)
+        .filter(|state| state.junction == trip.order.target)
+        .min_by(|one, other| P::rank(one, other))
 }
 
 /// The labels by rank: the undominated states, up to the answer where there is one.
 pub fn labels_of<P: Planner>(reachable: &BTreeSet<State>, answer: Option<&State>) -> Vec<State> {
     let mut labels = undominated::<P>(reachable);
+    labels.sort_by(P::rank);
     if let Some(answer) = answer {
         labels.retain(|state| P::counts(state, answer));
     }
@@ -149,7 +153,7 @@ fn plan_records<P: Planner>(trip: &Trip, labels: &[State], answer: &State) -> Ve
 /// Every label's index and move that lead to exactly this state.
 fn moves_to<P: Planner>(trip: &Trip, labels: &[State], state: &State) -> Vec<(usize, Move)> {
     let leading = |(index, label)| {
-        P::moves(trip, label)
+        trip.legal_moves::<P>(label)
             .into_iter()
             .filter(|(_, after)| after == state)
             .map(move |(step, _)| (index, step))

@@ -2,7 +2,7 @@
 
 use crate::lent::Lent;
 use crate::make::Run;
-use crate::operations::Operations;
+use crate::operations::{LentFigures, LentRules, Operations};
 use crate::reply::{Reply, BAD_TRIP};
 
 /// One call. The bytes and words lent for writing hold marks beforehand.
@@ -38,8 +38,8 @@ pub enum Probe {
     },
     Replay {
         trace: Vec<u8>,
-        rules: [u32; 4],
-        figures: [u32; 2],
+        rules: LentRules,
+        figures: LentFigures,
     },
 }
 
@@ -122,12 +122,12 @@ fn answer_plan(operations: &Operations, run: &Run, labels: &[u32], sheet: &[u8])
 fn answer_replay(
     operations: &Operations,
     trace: &[u8],
-    rules: [u32; 4],
-    figures: &[u32; 2],
+    rules: LentRules,
+    figures: &LentFigures,
 ) -> Answer {
     let mut lent = Lent::new(figures, 0xA5A5_A5A5);
-    let two = lent.content().try_into().expect("two figures");
-    let reply = (operations.replay)(trace, rules, two);
+    let content = lent.content().try_into().expect("as many as lent");
+    let reply = (operations.replay)(trace, rules, content);
     let bytes = |figure: &u32| figure.to_le_bytes();
     Answer {
         margins_kept: lent.margins_kept(),

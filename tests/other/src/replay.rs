@@ -1,11 +1,13 @@
-//! Hours from the tachograph (document 02, P3): a trace replayed over the driver's two figures.
+//! Hours from the tachograph (document 02, P3 and P5): a trace replayed over the driver's figures.
 //! Refusals 10, 11 and 21 to 23.
 //!
 //! No figure is carried from record to record. Wherever one is asked for, the wheel time since the
-//! last pause that was long enough is added up afresh, out of all the records before.
+//! last pause that was long enough is added up afresh, out of all the records before; and so is the
+//! mark found afresh.
 
+use crate::moves::Document;
+use crate::operations::{LentFigures, LentRules};
 use crate::order::{refuse_broken, Order};
-use crate::planning::Document;
 use crate::reply::*;
 use crate::words::{bytes_of, word};
 
@@ -43,6 +45,23 @@ impl TraceRecord {
     }
 }
 
+/// What a trace is replayed with: words 4 to 11 of an order, and the mark as lent.
+#[derive(Clone, Debug)]
+pub struct Hours {
+    pub order: Order,
+    pub marked: bool,
+}
+
+impl Hours {
+    fn of(rules: LentRules, figures: LentFigures) -> Hours {
+        let [spell, shift, mark] = figures.map(u64::from);
+        Hours {
+            order: Order::of_hours(rules.map(u64::from), [spell, shift]),
+            marked: mark != 0,
+        }
+    }
+}
+
 /// The rules of replaying. The defaults are document 02's; a wrong copy changes one of them.
 pub trait Replayer: Sized {
     /// Whether two neighbouring records belong to one pause.
@@ -50,9 +69,9 @@ pub trait Replayer: Sized {
         one.activity == PAUSE && next.activity == PAUSE
     }
 
-    /// Whether a whole pause of so many seconds clears spell.
-    fn clears_spell(pause: u64, order: &Order) -> bool {
-        pause >= order.break_time
+    /// Whether a whole pause of so many seconds clears spell, with or without the mark before it.
+    fn clears_spell(pause: u64, marked: bool, order: &Order) -> bool {
+        pause >= order.break_time || ends_split(pause, marked, order)
     }
 
     /// Whether it clears shift.
@@ -60,66 +79,103 @@ pub trait Replayer: Sized {
         pause >= order.rest_time
     }
 
+    /// The mark after a stretch with a whole pause of so many seconds, or with none.
+    fn marked_after(pause: u64, marked: bool, order: &Order) -> bool {
+        let is_cleared = pause >= order.break_time || ends_split(pause, marked, order);
+        !is_cleared && (marked || order.has_split() && pause >= order.first_part)
+    }
+
     /// The refusal that the last of some records meets, where those before it have met none.
-    fn refusal(records: &[TraceRecord], order: &Order) -> Option<u64> {
+    fn refusal(records: &[TraceRecord], hours: &Hours) -> Option<u64> {
         if records.last()?.is_odd() {
             return Some(ODD_RECORD);
         }
-        is_past_limit::<Self>(records, order).then_some(PAST_LIMIT)
+        is_past_limit::<Self>(records, hours).then_some(PAST_LIMIT)
     }
+}
+
+/// Whether a pause is a second part.
+fn ends_split(pause: u64, marked: bool, order: &Order) -> bool {
+    order.has_split() && marked && pause >= order.second_part
 }
 
 impl Replayer for Document {}
 
-/// The rules are words 6 to 9 of an order, and the figures words 4 and 5.
-pub fn replay<R: Replayer>(trace: &[u8], rules: [u32; 4], figures: &mut [u32; 2]) -> Reply {
+pub fn replay<R: Replayer>(trace: &[u8], rules: LentRules, figures: &mut LentFigures) -> Reply {
     told(replayed::<R>(trace, rules, figures))
 }
 
 fn replayed<R: Replayer>(
     trace: &[u8],
-    rules: [u32; 4],
-    figures: &mut [u32; 2],
+    rules: LentRules,
+    figures: &mut LentFigures,
 ) -> Result<Reply, Reply> {
-    let order = Order::of_hours(rules.map(u64::from), figures.map(u64::from));
-    refuse_broken(BAD_RULES, &order.rules())?;
-    refuse_broken(BAD_TRIP, &order.figures())?;
+    let hours = Hours::of(rules, *figures);
+    refuse_broken(BAD_RULES, &hours.order.rules())?;
+    refuse_broken(BAD_TRIP, &hours.order.figures())?;
     if !trace.len().is_multiple_of(TRACE_RECORD_BYTES) {
         return Err(Reply::refused(TORN_TRACE, trace.len() as u64));
     }
     let records = TraceRecord::read_all(trace);
     for number in 1..=records.len() {
-        if let Some(refusal) = R::refusal(&records[..number], &order) {
+        if let Some(refusal) = R::refusal(&records[..number], &hours) {
             return Err(Reply::refused(refusal, number as u64));
         }
     }
-    *figures = figures_after::<R>(&records, &order).map(|figure| figure as u32);
+    let [spell, shift] = figures_after::<R>(&records, &hours);
+    let marked = is_marked_after::<R>(&records, &hours);
+    *figures = [spell, shift, u64::from(marked)].map(|figure| figure as u32);
     Ok(Reply::success(records.len() as u64, 0))
 }
 
-/// Spell and shift after all of some records, from the order's starting figures.
-pub fn figures_after<R: Replayer>(records: &[TraceRecord], order: &Order) -> [u64; 2] {
+/// Spell and shift after all of some records.
+pub fn figures_after<R: Replayer>(records: &[TraceRecord], hours: &Hours) -> [u64; 2] {
+    let order = &hours.order;
+    let clears_spell = |pause, before: &[TraceRecord]| {
+        R::clears_spell(pause, is_marked_after::<R>(before, hours), order)
+    };
+    let clears_shift = |pause, _: &[TraceRecord]| R::clears_shift(pause, order);
     [
-        wheel_time::<R>(records, order.spell, |pause| R::clears_spell(pause, order)),
-        wheel_time::<R>(records, order.shift, |pause| R::clears_shift(pause, order)),
+        wheel_time::<R>(records, order.spell, clears_spell),
+        wheel_time::<R>(records, order.shift, clears_shift),
     ]
 }
 
 /// The wheel time since the last pause that clears it; where there is none, all of it and that of
-/// the start.
+/// the start. `clears` is asked of a whole pause and the records before it.
 fn wheel_time<R: Replayer>(
     records: &[TraceRecord],
     at_start: u64,
-    clears: impl Fn(u64) -> bool,
+    clears: impl Fn(u64, &[TraceRecord]) -> bool,
 ) -> u64 {
     let mut driven = 0;
+    let mut before = records;
     for stretch in records.chunk_by(R::joins).rev() {
-        if clears(seconds_of(PAUSE, stretch)) {
+        before = &before[..before.len() - stretch.len()];
+        let pause = seconds_of(PAUSE, stretch);
+        if pause > 0 && clears(pause, before) {
             return driven;
         }
         driven += seconds_of(DRIVING, stretch);
     }
     at_start + driven
+}
+
+/// Whether the driver has the mark after all of some records. The last pause that leaves the same
+/// with and without a mark before it is looked for; those behind it are taken in turn.
+fn is_marked_after<R: Replayer>(records: &[TraceRecord], hours: &Hours) -> bool {
+    let after = |marked, pause| R::marked_after(pause, marked, &hours.order);
+    let mut marked = hours.marked;
+    let mut behind = Vec::new();
+    for stretch in records.chunk_by(R::joins).rev() {
+        let pause = seconds_of(PAUSE, stretch);
+        if after(true, pause) == after(false, pause) {
+            marked = after(true, pause);
+            break;
+        }
+        behind.push(pause);
+    }
+    behind.into_iter().rev().fold(marked, after)
 }
 
 /// The seconds of one activity in a stretch of the trace.
@@ -129,10 +185,10 @@ fn seconds_of(activity: u64, stretch: &[TraceRecord]) -> u64 {
 }
 
 /// Whether the last of some records is driving that takes a figure over its limit.
-pub fn is_past_limit<R: Replayer>(records: &[TraceRecord], order: &Order) -> bool {
+pub fn is_past_limit<R: Replayer>(records: &[TraceRecord], hours: &Hours) -> bool {
     if records.last().is_none_or(|last| last.activity != DRIVING) {
         return false;
     }
-    let [spell, shift] = figures_after::<R>(records, order);
-    spell > order.spell_limit || shift > order.shift_limit
+    let [spell, shift] = figures_after::<R>(records, hours);
+    spell > hours.order.spell_limit || shift > hours.order.shift_limit
 }

@@ -1,21 +1,26 @@
 //! Retiming and audit.
 
-use crate::moves::{State, Trip};
+use crate::moves::{Offer, State, Trip};
 use crate::reply::*;
 use crate::sheet::{Record, Sheet};
 
-pub fn retime(map: &[u8], order: &[u8], sheet: &[u8], out: &mut [u8]) -> Reply {
-    told(retimed(map, order, sheet, out))
+pub fn retime<O: Offer>(map: &[u8], order: &[u8], sheet: &[u8], out: &mut [u8]) -> Reply {
+    told(retimed::<O>(map, order, sheet, out))
 }
 
-pub fn audit(map: &[u8], order: &[u8], sheet: &[u8]) -> Reply {
-    told(audited(map, order, sheet))
+pub fn audit<O: Offer>(map: &[u8], order: &[u8], sheet: &[u8]) -> Reply {
+    told(audited::<O>(map, order, sheet))
 }
 
-fn retimed(map: &[u8], order: &[u8], sheet: &[u8], out: &mut [u8]) -> Result<Reply, Reply> {
+fn retimed<O: Offer>(
+    map: &[u8],
+    order: &[u8],
+    sheet: &[u8],
+    out: &mut [u8],
+) -> Result<Reply, Reply> {
     let (trip, given) = opened(map, order, sheet)?;
     let ignore_clock = |_: u64, _: &Record, _: &State| Ok(());
-    let states = walk(&trip, &given, ignore_clock)?;
+    let states = walk::<O>(&trip, &given, ignore_clock)?;
     let end = reached_target(&trip, &states)?;
     if out.len() < given.length() {
         return Err(Reply::refused(SHORT_SHEET, given.length() as u64));
@@ -29,7 +34,7 @@ fn retimed(map: &[u8], order: &[u8], sheet: &[u8], out: &mut [u8]) -> Result<Rep
     Ok(succeeded(&given, &end))
 }
 
-fn audited(map: &[u8], order: &[u8], sheet: &[u8]) -> Result<Reply, Reply> {
+fn audited<O: Offer>(map: &[u8], order: &[u8], sheet: &[u8]) -> Result<Reply, Reply> {
     let (trip, given) = opened(map, order, sheet)?;
     let compare_clock = |number: u64, record: &Record, after: &State| {
         if record.clock == after.clock {
@@ -38,7 +43,7 @@ fn audited(map: &[u8], order: &[u8], sheet: &[u8]) -> Result<Reply, Reply> {
             Err(Reply::refused(FALSE_FIGURE, number))
         }
     };
-    let states = walk(&trip, &given, compare_clock)?;
+    let states = walk::<O>(&trip, &given, compare_clock)?;
     let end = reached_target(&trip, &states)?;
     if [given.arrival, given.spell, given.shift] != [end.clock, end.spell, end.shift] {
         let header = given.records.len() as u64 + 1;
@@ -55,7 +60,7 @@ fn opened(map: &[u8], order: &[u8], sheet: &[u8]) -> Result<(Trip, Sheet), Reply
 }
 
 /// The start and the state after each record: refusals 16 and 17 in each move, then `judge_clock`.
-fn walk(
+fn walk<O: Offer>(
     trip: &Trip,
     given: &Sheet,
     judge_clock: impl Fn(u64, &Record, &State) -> Result<(), Reply>,
@@ -64,7 +69,7 @@ fn walk(
     let mut states = vec![state];
     for (number, record) in (1..).zip(&given.records) {
         let foreign = Reply::refused(FOREIGN_MOVE, number);
-        state = trip.after(&state, record.step).ok_or(foreign)?;
+        state = O::after(trip, &state, record.step).ok_or(foreign)?;
         if !trip.allows(&state) {
             return Err(Reply::refused(OVERRUN, number));
         }

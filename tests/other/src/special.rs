@@ -7,7 +7,8 @@ use crate::make::Run;
 use crate::map::{Junction, Map, Road};
 use crate::mapcheck::{MOST_JUNCTIONS, MOST_NAME_BYTES, MOST_ROADS};
 use crate::moves::{Move, Trip, DRIVE};
-use crate::order::{Order, EUROPEAN_RULES};
+use crate::operations::LentFigures;
+use crate::order::{Order, EUROPEAN_RULES, LATEST_CLOCK};
 use crate::planning::{MOST_LABELS, WORDS_OF_A_LABEL};
 use crate::probe::Probe;
 use crate::replay::{DRIVING, LONGEST_ACTIVITY, OTHER_WORK, PAUSE};
@@ -118,15 +119,13 @@ fn plan_with_ample_space(map: Vec<u8>, order: &Order) -> Probe {
     }
 }
 
-/// The patient order with the European figures.
+/// From junction 1 to itself under the European rules, with all the time there is.
 fn european_order() -> Order {
-    let [spell_limit, break_time, shift_limit, rest_time] = EUROPEAN_RULES;
     Order {
-        spell_limit,
-        break_time,
-        shift_limit,
-        rest_time,
-        ..patient_order()
+        source: 1,
+        target: 1,
+        latest: LATEST_CLOCK,
+        ..Order::of_hours(EUROPEAN_RULES, [0, 0])
     }
 }
 
@@ -182,18 +181,16 @@ pub fn round_road() -> Road {
     }
 }
 
+/// The same with the widest limits and pauses of a second.
 fn patient_order() -> Order {
     Order {
-        source: 1,
-        target: 1,
-        departure: 0,
-        latest: 2_000_000_000,
-        spell: 0,
-        shift: 0,
         spell_limit: 1_000_000,
         break_time: 1,
         shift_limit: 1_000_000,
         rest_time: 1,
+        first_part: 1,
+        second_part: 1,
+        ..european_order()
     }
 }
 
@@ -250,15 +247,15 @@ fn trace_probes() -> [Probe; 4] {
     let mut last_too_long = long_trace();
     *last_too_long.last_mut().expect("a record") = (DRIVING, 1);
     [
-        european_replay(&[], [15, 20]),
-        european_replay(&pause_of_two_to_the_32nd(), [16_200, 32_400]),
-        european_replay(&long_trace(), [0, 0]),
-        european_replay(&last_too_long, [0, 0]),
+        european_replay(&[], [15, 20, 1]),
+        european_replay(&pause_of_two_to_the_32nd(), [16_200, 32_400, 1]),
+        european_replay(&long_trace(), [0, 0, 0]),
+        european_replay(&last_too_long, [0, 0, 0]),
     ]
 }
 
 /// Records by activity and seconds, under the European rules.
-fn european_replay(records: &[(u64, u64)], figures: [u32; 2]) -> Probe {
+fn european_replay(records: &[(u64, u64)], figures: LentFigures) -> Probe {
     let words = |&(activity, seconds): &(u64, u64)| [activity, seconds];
     Probe::Replay {
         trace: bytes_of(&records.iter().flat_map(words).collect::<Vec<u64>>()),
@@ -275,9 +272,9 @@ fn pause_of_two_to_the_32nd() -> Vec<(u64, u64)> {
     records
 }
 
-/// Days that just keep the European rules: every limit, break and rest is met exactly.
+/// Days that just keep the European rules: every limit, break, part and rest is met exactly.
 fn long_trace() -> Vec<(u64, u64)> {
-    let day = [
+    let day_with_a_break = [
         (OTHER_WORK, 1_800),
         (DRIVING, 16_200),
         (PAUSE, 1_500),
@@ -287,7 +284,17 @@ fn long_trace() -> Vec<(u64, u64)> {
         (PAUSE, 19_800),
         (PAUSE, 19_800),
     ];
-    day.repeat(25_000)
+    let day_with_a_split = [
+        (DRIVING, 9_000),
+        (PAUSE, 900),
+        (DRIVING, 7_200),
+        (PAUSE, 1_000),
+        (PAUSE, 800),
+        (DRIVING, 16_200),
+        (PAUSE, 19_800),
+        (PAUSE, 19_800),
+    ];
+    [day_with_a_break, day_with_a_split].concat().repeat(12_500)
 }
 
 /// The largest practice map, with so near a latest that few states are reachable.

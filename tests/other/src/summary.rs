@@ -7,8 +7,8 @@ use crate::case_probes::{ample_plan, label_count, probes};
 use crate::compare::marks;
 use crate::make::random::Random;
 use crate::make::{case, Run};
-use crate::moves::{BREAK, DRIVE, REST};
-use crate::operations::DOCUMENT;
+use crate::moves::{DRIVE, SECOND};
+use crate::operations::{LentRules, DOCUMENT};
 use crate::probe::{answer, Answer, Probe};
 use crate::reply::PAST_LIMIT;
 use crate::sheet::{sheet_bytes, Sheet};
@@ -67,14 +67,15 @@ impl Summary {
         }
     }
 
-    fn add_figures(&mut self, rules: [u32; 4], seen: &Answer) {
-        let [spell_limit, _, shift_limit, _] = rules.map(u64::from);
-        let [spell, shift] = [0, 4].map(|offset| word(&seen.written, offset));
+    fn add_figures(&mut self, rules: LentRules, seen: &Answer) {
+        let [spell_limit, _, shift_limit, ..] = rules.map(u64::from);
+        let [spell, shift, mark] = [0, 4, 8].map(|offset| word(&seen.written, offset));
         for (name, is_so) in [
             ("spell at its limit", spell == spell_limit),
             ("shift at its limit", shift == shift_limit),
             ("spell alone 0", spell == 0 && shift > 0),
             ("both 0", shift == 0),
+            ("the mark", mark != 0),
         ] {
             *self.figures.entry(name).or_default() += u64::from(is_so);
         }
@@ -96,7 +97,7 @@ impl Summary {
             .expect("a plan")
             .records;
         *self.lengths.entry(records.len()).or_default() += 1;
-        for kind in [DRIVE, BREAK, REST] {
+        for kind in DRIVE..=SECOND {
             if records.iter().any(|record| record.step.kind == kind) {
                 *self.kinds.entry(kind).or_default() += 1;
             }

@@ -43,7 +43,7 @@ fn answer_next(stored: &mut &[u8]) -> String {
         }
         b'a' => line((DOCUMENT.audit)(map, order, sheet)),
         b'p' => planned(map, order, vec![number as u32; label_words], sheet),
-        b't' => replayed(order, sheet),
+        b't' => replayed(order, number as u32, sheet),
         other => format!("unknown kind {other}"),
     };
     format!("{title}: {answer}\n")
@@ -62,13 +62,14 @@ fn planned(map: &[u8], order: &[u8], before: Vec<u32>, sheet: &[u8]) -> String {
     format!("{} {}{stayed}", line(reply), hexadecimal(&lent))
 }
 
-/// The reply, and the two figures afterwards. The hours are words 4 to 9 of an order.
-fn replayed(hours: &[u8], trace: &[u8]) -> String {
-    let [spell, shift, rules @ ..] = [0, 4, 8, 12, 16, 20].map(|offset| word(hours, offset) as u32);
-    let mut figures = [spell, shift];
+/// The reply, and the figures afterwards, the mark last. The hours are words 4 to 11 of an order.
+fn replayed(hours: &[u8], mark: u32, trace: &[u8]) -> String {
+    let words = [0, 4, 8, 12, 16, 20, 24, 28].map(|offset| word(hours, offset) as u32);
+    let [spell, shift, rules @ ..] = words;
+    let mut figures = [spell, shift, mark];
     let reply = (DOCUMENT.replay)(trace, rules, &mut figures);
-    let [spell, shift] = figures;
-    format!("{} {spell} {shift}", line(reply))
+    let [spell, shift, mark] = figures;
+    format!("{} {spell} {shift} {mark}", line(reply))
 }
 
 fn take<'a>(stored: &mut &'a [u8], length: usize) -> &'a [u8] {

@@ -1,23 +1,27 @@
 //! Deliberately wrong copies: `compare` must find each.
 
+mod splits;
+
 use crate::chains::make_chains;
 use crate::map::Road;
 use crate::mapcheck::{check_map, MOST_JUNCTIONS};
-use crate::moves::{Move, State, Trip, BREAK, DRIVE, REST};
+use crate::moves::{Document, Move, Offer, State, Trip, BREAK, DRIVE, REST};
 use crate::names::name;
 use crate::operations::{
-    NameAnswer, Operations, PlanFunction, ReplayFunction, RetimeFunction, DOCUMENT,
+    LentFigures, LentRules, NameAnswer, Operations, PlanFunction, ReplayFunction, RetimeFunction,
+    DOCUMENT,
 };
 use crate::order::{check_order, refuse_broken, Order, ORDER_BYTES};
-use crate::planning::{labels_that_fit, plan, Document, Planner};
+use crate::planning::{labels_that_fit, plan, Planner};
 use crate::replay::{
-    is_past_limit, replay, Replayer, TraceRecord, DRIVING, PAUSE, TRACE_RECORD_BYTES,
+    is_past_limit, replay, Hours, Replayer, TraceRecord, DRIVING, PAUSE, TRACE_RECORD_BYTES,
 };
 use crate::reply::*;
 use crate::retiming::{audit, retime};
 use crate::sheet::{sheet_bytes, Sheet};
 use crate::words::{put_word, word};
 
+#[derive(Clone, Copy)]
 pub struct WrongCopy {
     pub name: &'static str,
     pub operations: Operations,
@@ -57,6 +61,7 @@ pub fn wrong_copies() -> Vec<WrongCopy> {
     copies.extend(other_copies());
     copies.extend(check_copies());
     copies.extend(replay_copies());
+    copies.extend(splits::copies());
     copies
 }
 
@@ -142,6 +147,19 @@ fn replay_copies() -> [WrongCopy; 12] {
     })
 }
 
+/// The half of a copy that is as the documents say.
+macro_rules! default_half {
+    ($half:ident: $($copy:ident),* $(,)?) => {
+        $(impl $half for $copy {})*
+    };
+}
+pub(crate) use default_half;
+
+default_half!(Offer: ClockAlone, ClockAndSpell, ShiftReversed, ParentLastFound, HighestRoad);
+default_half!(Offer: FullWhenJustEnough, CountWithoutJunction, AnswerNotCounted);
+default_half!(Planner: RestLeavesSpell, BreakClearsShift, NoPauseBeforeDriving);
+default_half!(Planner: RoadTimeRoundedUp, RoadTimeHalfUp, RoadTimeHalfToOdd, NoLeastSecond);
+
 struct ClockAlone;
 
 impl Planner for ClockAlone {
@@ -212,49 +230,47 @@ impl Planner for AnswerNotCounted {
 
 struct RestLeavesSpell;
 
-impl Planner for RestLeavesSpell {
-    fn moves(trip: &Trip, state: &State) -> Vec<(Move, State)> {
-        let mut moves = trip.legal_moves(state);
-        for (_, after) in moves.iter_mut().filter(|(step, _)| step.kind == REST) {
+impl Offer for RestLeavesSpell {
+    fn after(trip: &Trip, state: &State, step: Move) -> Option<State> {
+        let mut after = trip.after(state, step)?;
+        if step.kind == REST {
             after.spell = state.spell;
         }
-        moves
+        Some(after)
     }
 }
 
 struct BreakClearsShift;
 
-impl Planner for BreakClearsShift {
-    fn moves(trip: &Trip, state: &State) -> Vec<(Move, State)> {
-        let mut moves = trip.legal_moves(state);
-        for (_, after) in moves.iter_mut().filter(|(step, _)| step.kind == BREAK) {
+impl Offer for BreakClearsShift {
+    fn after(trip: &Trip, state: &State, step: Move) -> Option<State> {
+        let mut after = trip.after(state, step)?;
+        if step.kind == BREAK {
             after.shift = 0;
         }
-        moves
+        Some(after)
     }
 }
 
 struct NoPauseBeforeDriving;
 
-impl Planner for NoPauseBeforeDriving {
-    fn moves(trip: &Trip, state: &State) -> Vec<(Move, State)> {
-        let mut moves = trip.legal_moves(state);
-        moves.retain(|(step, _)| *state != trip.start() || step.kind == DRIVE);
-        moves
+impl Offer for NoPauseBeforeDriving {
+    fn after(trip: &Trip, state: &State, step: Move) -> Option<State> {
+        let offered = step.kind == DRIVE || *state != trip.start();
+        trip.after(state, step).filter(|_| offered)
     }
 }
 
-/// The legal moves where a road takes the seconds that `time` gives.
-fn moves_timed(trip: &Trip, state: &State, time: fn(&Road) -> u64) -> Vec<(Move, State)> {
-    let mut moves = trip.offered_moves(state);
-    for (step, after) in moves.iter_mut().filter(|(step, _)| step.kind == DRIVE) {
+/// The state after a move where a road takes the seconds that `time` gives.
+fn after_timed(trip: &Trip, state: &State, step: Move, time: fn(&Road) -> u64) -> Option<State> {
+    let mut after = trip.after(state, step)?;
+    if step.kind == DRIVE {
         let seconds = time(trip.map.road(step.number));
         after.clock = state.clock + seconds;
         after.spell = state.spell + seconds;
         after.shift = state.shift + seconds;
     }
-    moves.retain(|(_, after)| trip.allows(after));
-    moves
+    Some(after)
 }
 
 /// A road's time in half seconds, rounded down, and whether nothing was lost.
@@ -265,9 +281,9 @@ fn half_seconds(road: &Road) -> (u64, bool) {
 
 struct RoadTimeRoundedUp;
 
-impl Planner for RoadTimeRoundedUp {
-    fn moves(trip: &Trip, state: &State) -> Vec<(Move, State)> {
-        moves_timed(trip, state, |road| {
+impl Offer for RoadTimeRoundedUp {
+    fn after(trip: &Trip, state: &State, step: Move) -> Option<State> {
+        after_timed(trip, state, step, |road| {
             (18 * road.metres).div_ceil(5 * road.speed)
         })
     }
@@ -275,17 +291,19 @@ impl Planner for RoadTimeRoundedUp {
 
 struct RoadTimeHalfUp;
 
-impl Planner for RoadTimeHalfUp {
-    fn moves(trip: &Trip, state: &State) -> Vec<(Move, State)> {
-        moves_timed(trip, state, |road| half_seconds(road).0.div_ceil(2).max(1))
+impl Offer for RoadTimeHalfUp {
+    fn after(trip: &Trip, state: &State, step: Move) -> Option<State> {
+        after_timed(trip, state, step, |road| {
+            half_seconds(road).0.div_ceil(2).max(1)
+        })
     }
 }
 
 struct RoadTimeHalfToOdd;
 
-impl Planner for RoadTimeHalfToOdd {
-    fn moves(trip: &Trip, state: &State) -> Vec<(Move, State)> {
-        moves_timed(trip, state, |road| match half_seconds(road) {
+impl Offer for RoadTimeHalfToOdd {
+    fn after(trip: &Trip, state: &State, step: Move) -> Option<State> {
+        after_timed(trip, state, step, |road| match half_seconds(road) {
             (halves, true) if halves % 2 == 1 => halves / 2 + (halves / 2 + 1) % 2,
             _ => road.time(),
         })
@@ -295,9 +313,9 @@ impl Planner for RoadTimeHalfToOdd {
 /// A road of 0 seconds only leads to a higher junction, since a label's parent must rank before it.
 struct NoLeastSecond;
 
-impl Planner for NoLeastSecond {
-    fn moves(trip: &Trip, state: &State) -> Vec<(Move, State)> {
-        moves_timed(trip, state, |road| match half_seconds(road) {
+impl Offer for NoLeastSecond {
+    fn after(trip: &Trip, state: &State, step: Move) -> Option<State> {
+        after_timed(trip, state, step, |road| match half_seconds(road) {
             (0, _) | (1, true) if road.from < road.to => 0,
             _ => road.time(),
         })
@@ -376,7 +394,7 @@ fn labels_touched_early(map: &[u8], order: &[u8], labels: &mut [u32], sheet: &mu
 }
 
 fn retime_copies_clocks(map: &[u8], order: &[u8], sheet: &[u8], out: &mut [u8]) -> Reply {
-    let reply = retime(map, order, sheet, out);
+    let reply = retime::<Document>(map, order, sheet, out);
     if reply.number == 0 {
         let records = out.iter_mut().zip(sheet).skip(sheet_bytes(0));
         records.for_each(|(written, given)| *written = *given);
@@ -385,7 +403,7 @@ fn retime_copies_clocks(map: &[u8], order: &[u8], sheet: &[u8], out: &mut [u8]) 
 }
 
 fn retime_clears_tail(map: &[u8], order: &[u8], sheet: &[u8], out: &mut [u8]) -> Reply {
-    let reply = retime(map, order, sheet, out);
+    let reply = retime::<Document>(map, order, sheet, out);
     if reply.number == 0 {
         clear_tail(out);
     }
@@ -393,7 +411,7 @@ fn retime_clears_tail(map: &[u8], order: &[u8], sheet: &[u8], out: &mut [u8]) ->
 }
 
 fn retime_short_before_stray(map: &[u8], order: &[u8], sheet: &[u8], out: &mut [u8]) -> Reply {
-    let reply = retime(map, order, sheet, out);
+    let reply = retime::<Document>(map, order, sheet, out);
     match reply.number {
         STRAY if out.len() < sheet.len() => Reply::refused(SHORT_SHEET, sheet.len() as u64),
         _ => reply,
@@ -407,12 +425,12 @@ fn clear_tail(sheet: &mut [u8]) {
 
 fn audit_ignores_shift(map: &[u8], order: &[u8], sheet: &[u8]) -> Reply {
     let mut truly = sheet.to_vec();
-    if retime(map, order, sheet, &mut truly).number != 0 {
-        return audit(map, order, sheet);
+    if retime::<Document>(map, order, sheet, &mut truly).number != 0 {
+        return audit::<Document>(map, order, sheet);
     }
     let mut given = Sheet::read(sheet).expect("a sheet that was retimed");
     given.shift = word(&truly, 12);
-    audit(map, order, &given.bytes())
+    audit::<Document>(map, order, &given.bytes())
 }
 
 fn name_from_map_start(map: &[u8], junction: u32) -> NameAnswer {
@@ -516,8 +534,9 @@ impl Replayer for JoinedAcrossWork {
 struct BreakStrict;
 
 impl Replayer for BreakStrict {
-    fn clears_spell(pause: u64, order: &Order) -> bool {
-        pause > order.break_time || Self::clears_shift(pause, order)
+    fn clears_spell(pause: u64, marked: bool, order: &Order) -> bool {
+        Document::clears_spell(pause, marked, order)
+            && (pause != order.break_time || Self::clears_shift(pause, order))
     }
 }
 
@@ -532,12 +551,10 @@ impl Replayer for RestStrict {
 struct LimitStrict;
 
 impl Replayer for LimitStrict {
-    fn refusal(records: &[TraceRecord], order: &Order) -> Option<u64> {
-        let lower = Order {
-            spell_limit: order.spell_limit - 1,
-            shift_limit: order.shift_limit - 1,
-            ..order.clone()
-        };
+    fn refusal(records: &[TraceRecord], hours: &Hours) -> Option<u64> {
+        let mut lower = hours.clone();
+        lower.order.spell_limit -= 1;
+        lower.order.shift_limit -= 1;
         Document::refusal(records, &lower)
     }
 }
@@ -545,31 +562,31 @@ impl Replayer for LimitStrict {
 struct PastBeforeOdd;
 
 impl Replayer for PastBeforeOdd {
-    fn refusal(records: &[TraceRecord], order: &Order) -> Option<u64> {
-        if is_past_limit::<Document>(records, order) {
+    fn refusal(records: &[TraceRecord], hours: &Hours) -> Option<u64> {
+        if is_past_limit::<Document>(records, hours) {
             return Some(PAST_LIMIT);
         }
-        Document::refusal(records, order)
+        Document::refusal(records, hours)
     }
 }
 
 struct DrivingJudgedAlone;
 
 impl Replayer for DrivingJudgedAlone {
-    fn refusal(records: &[TraceRecord], order: &Order) -> Option<u64> {
+    fn refusal(records: &[TraceRecord], hours: &Hours) -> Option<u64> {
         match records.last()?.activity {
-            DRIVING => Document::refusal(records, order),
+            DRIVING => Document::refusal(records, hours),
             activity => (activity > PAUSE).then_some(ODD_RECORD),
         }
     }
 }
 
 /// The right reply, with the figures brought up to date as they must be.
-fn right_replay(trace: &[u8], rules: [u32; 4], figures: &mut [u32; 2]) -> Reply {
+fn right_replay(trace: &[u8], rules: LentRules, figures: &mut LentFigures) -> Reply {
     replay::<Document>(trace, rules, figures)
 }
 
-fn every_odd_record_first(trace: &[u8], rules: [u32; 4], figures: &mut [u32; 2]) -> Reply {
+fn every_odd_record_first(trace: &[u8], rules: LentRules, figures: &mut LentFigures) -> Reply {
     let reply = right_replay(trace, rules, figures);
     let records = TraceRecord::read_all(trace);
     match records.iter().position(TraceRecord::is_odd) {
@@ -578,7 +595,7 @@ fn every_odd_record_first(trace: &[u8], rules: [u32; 4], figures: &mut [u32; 2])
     }
 }
 
-fn torn_trace_before_rules(trace: &[u8], rules: [u32; 4], figures: &mut [u32; 2]) -> Reply {
+fn torn_trace_before_rules(trace: &[u8], rules: LentRules, figures: &mut LentFigures) -> Reply {
     if trace.len().is_multiple_of(TRACE_RECORD_BYTES) {
         return right_replay(trace, rules, figures);
     }
@@ -586,7 +603,7 @@ fn torn_trace_before_rules(trace: &[u8], rules: [u32; 4], figures: &mut [u32; 2]
 }
 
 /// Leaves the figures that the records before the refused one lead to.
-fn refused_trace_half_replayed(trace: &[u8], rules: [u32; 4], figures: &mut [u32; 2]) -> Reply {
+fn refused_trace_half_replayed(trace: &[u8], rules: LentRules, figures: &mut LentFigures) -> Reply {
     let reply = right_replay(trace, rules, figures);
     if [ODD_RECORD, PAST_LIMIT].contains(&reply.number) {
         let before = TRACE_RECORD_BYTES * (reply.place as usize - 1);
@@ -595,7 +612,7 @@ fn refused_trace_half_replayed(trace: &[u8], rules: [u32; 4], figures: &mut [u32
     reply
 }
 
-fn pause_at_the_end_unjudged(trace: &[u8], rules: [u32; 4], figures: &mut [u32; 2]) -> Reply {
+fn pause_at_the_end_unjudged(trace: &[u8], rules: LentRules, figures: &mut LentFigures) -> Reply {
     let start = *figures;
     let reply = right_replay(trace, rules, figures);
     if reply.number == 0 {
@@ -607,7 +624,7 @@ fn pause_at_the_end_unjudged(trace: &[u8], rules: [u32; 4], figures: &mut [u32; 
     reply
 }
 
-fn activity_by_its_low_byte(trace: &[u8], rules: [u32; 4], figures: &mut [u32; 2]) -> Reply {
+fn activity_by_its_low_byte(trace: &[u8], rules: LentRules, figures: &mut LentFigures) -> Reply {
     let mut low = trace.to_vec();
     for record in low.chunks_exact_mut(TRACE_RECORD_BYTES) {
         record[1..4].fill(0);

@@ -4,10 +4,11 @@
 use super::random::Random;
 use crate::map::Map;
 use crate::mapcheck::{MOST_JUNCTIONS, MOST_NAME_BYTES, MOST_ROADS};
-use crate::order::{LATEST_CLOCK, LONGEST_RULE};
+use crate::order::{LATEST_CLOCK, LONGEST_RULE, ORDER_BYTES};
 use crate::words::{put_word, word};
 
 const ALL_BITS: u64 = u32::MAX as u64;
+const ORDER_WORDS: usize = ORDER_BYTES / 4;
 
 pub fn damaged_map(random: &mut Random, sound: &Map) -> Vec<u8> {
     let mut map = sound.clone();
@@ -120,24 +121,26 @@ fn last_or_above(random: &mut Random, last: u64) -> u64 {
 pub fn damaged_order(random: &mut Random, sound: &[u8]) -> Vec<u8> {
     let mut bytes = sound.to_vec();
     for _ in 0..random.pick(&[0, 1, 1, 1, 2, 3]) {
-        let number = random.index(10);
+        let number = random.index(ORDER_WORDS);
         damage_order_word(random, &mut bytes, number);
     }
     if random.one_in(6) {
-        bytes.resize(random.pick(&[0, 4, 36, 39, 41, 44, 48, 80]), 0);
+        bytes.resize(random.pick(&[0, 4, 40, 44, 47, 49, 52, 60, 96]), 0);
     }
     bytes
 }
 
 /// Replaces a word of an order by one that its own rules ask about, or by one near another word.
 pub fn damage_order_word(random: &mut Random, bytes: &mut [u8], number: usize) {
+    let break_time = word(bytes, 4 * 7);
     let figure = match number {
         0 | 1 => random.pick(&[0, 1, 8, 9, ALL_BITS]),
         2 | 3 => random.pick(&[0, LATEST_CLOCK, LATEST_CLOCK + 1, ALL_BITS]),
         4 | 5 => random.pick(&[0, 1, ALL_BITS]),
+        10 | 11 => random.pick(&[0, 0, 1, break_time, (break_time + 1).min(ALL_BITS)]),
         _ => random.pick(&[0, 1, LONGEST_RULE, LONGEST_RULE + 1, ALL_BITS]),
     };
-    let other = word(bytes, 4 * random.index(10));
+    let other = word(bytes, 4 * random.index(ORDER_WORDS));
     let beside = random.pick(&[other.saturating_sub(1), other, (other + 1).min(ALL_BITS)]);
     let value = random.pick(&[figure, beside]);
     put_word(bytes, 4 * number, value);

@@ -7,10 +7,11 @@ pub mod pairs;
 pub mod practice;
 pub mod random;
 pub mod sheets;
+pub mod ties;
 pub mod traces;
 
-use crate::moves::Trip;
-use crate::planning::{answer_of, labels_of, reachable_states, Document};
+use crate::moves::{Document, Trip};
+use crate::planning::{answer_of, labels_of, reachable_states};
 use random::Random;
 use sheets::Timing;
 use traces::Replay;
@@ -92,6 +93,9 @@ fn random_trip(random: &mut Random) -> Trip {
 }
 
 fn draw_trip(random: &mut Random) -> Trip {
+    if random.one_in(50) {
+        return ties::tied_trip(random);
+    }
     let map = maps::random_map(random);
     let order = orders::random_order(random, &map);
     let mut trip = Trip { map, order };
@@ -102,7 +106,7 @@ fn draw_trip(random: &mut Random) -> Trip {
 /// N; 0 where a journey is asked for and there is none.
 fn count_labels(trip: &Trip, journey: bool) -> usize {
     let reachable = reachable_states::<Document>(trip);
-    match answer_of(trip, &reachable) {
+    match answer_of::<Document>(trip, &reachable) {
         None if journey => 0,
         answer => labels_of::<Document>(&reachable, answer).len(),
     }

@@ -3,11 +3,11 @@
 use super::random::Random;
 use crate::map::{Map, Road};
 use crate::moves::Trip;
-use crate::order::{Order, EUROPEAN_RULES, LATEST_CLOCK, LONGEST_RULE};
+use crate::order::{Order, RuleWords, EUROPEAN_RULES, LATEST_CLOCK, LONGEST_RULE};
 use crate::planning::reaches_at_most;
 
 /// The most reachable states that a case may have.
-pub const MOST_STATES: usize = 2_000;
+pub const MOST_STATES: usize = 1_500;
 
 pub fn random_order(random: &mut Random, map: &Map) -> Order {
     let junctions = map.junctions.len() as u64;
@@ -29,7 +29,7 @@ pub fn random_order(random: &mut Random, map: &Map) -> Order {
 /// An order with accepted rules and figures, measured by this unit; it has no trip.
 pub fn random_hours(random: &mut Random, unit: u64) -> Order {
     let rules = random_rules(random, unit);
-    let [spell_limit, _, shift_limit, _] = rules;
+    let [spell_limit, _, shift_limit, ..] = rules;
     let (spell, shift) = random_figures(random, spell_limit, shift_limit);
     Order::of_hours(rules, [spell, shift])
 }
@@ -53,13 +53,34 @@ fn random_unit(random: &mut Random, map: &Map) -> u64 {
     random.pick(&[any, longest]).min(LONGEST_RULE / 3)
 }
 
-/// Words 6 to 9.
-fn random_rules(random: &mut Random, unit: u64) -> [u64; 4] {
-    if random.one_in(5) {
+/// Words 6 to 11.
+fn random_rules(random: &mut Random, unit: u64) -> RuleWords {
+    if random.one_in(10) {
         return EUROPEAN_RULES;
     }
+    let [spell_limit, break_time, shift_limit, rest_time] = random_limits(random, unit);
+    let [first_part, second_part] = random_parts(random, break_time);
+    [
+        spell_limit,
+        break_time,
+        shift_limit,
+        rest_time,
+        first_part,
+        second_part,
+    ]
+}
+
+/// Words 6 to 9.
+fn random_limits(random: &mut Random, unit: u64) -> [u64; 4] {
+    if random.one_in(10) {
+        let [limits @ .., _, _] = EUROPEAN_RULES;
+        return limits;
+    }
     let limited = |value: u64| value.clamp(1, LONGEST_RULE);
-    let [spell_units, shift_units] = [random.between(1, 4), random.between(0, 6)];
+    let [spell_units, shift_units] = match random.below(6) {
+        0 => [1, 0], // a rest before every other road
+        _ => [random.between(1, 4), random.between(0, 6)],
+    };
     let spell_limit = limited(near(random, unit * spell_units));
     let shift_limit = limited(spell_limit + near(random, unit * shift_units));
     let pause = random.pick(&[1, unit / 2, unit, 2 * unit]);
@@ -67,6 +88,23 @@ fn random_rules(random: &mut Random, unit: u64) -> [u64; 4] {
     let longer = random.pick(&[0, 1, unit, 3 * unit]);
     let rest_time = limited(break_time + near(random, longer));
     [spell_limit, break_time, shift_limit, rest_time]
+}
+
+/// Words 10 and 11. Together the parts are often as long as the break, so that sums of pauses
+/// coincide, and often shorter, so that plans have them; neither is so small that pauses alone would fill a case with states.
+pub fn random_parts(random: &mut Random, break_time: u64) -> [u64; 2] {
+    let third = break_time / 3;
+    let part = |length: u64| length.clamp(1, break_time);
+    let any = part(random.between(break_time / 10, break_time));
+    match random.below(12) {
+        0..=2 => [0, 0],
+        3 => [part(third), part(2 * third)],
+        4 => [part(break_time / 2), part(break_time / 2)],
+        5 => [part(2 * third), part(third)],
+        6..=9 => [part(third), part(third)],
+        10 => random.pick(&[[part(third), any], [any, part(third)]]),
+        _ => random.pick(&[[any, break_time], [break_time, any], [break_time; 2]]),
+    }
 }
 
 /// Words 4 and 5.

@@ -1,5 +1,6 @@
 //! A second run that makes nothing worse than the first (demand 3).
 
+use super::orders::random_parts;
 use super::random::Random;
 use crate::map::{Map, Road};
 use crate::moves::Trip;
@@ -45,7 +46,7 @@ fn faster_road(random: &mut Random, road: &Road) -> Road {
     }
 }
 
-/// The same trip; limits no lower, pauses no longer, starting figures no higher.
+/// The same trip; limits no lower, pauses and parts no longer, starting figures no higher.
 fn easier_order(random: &mut Random, order: &Order) -> Order {
     let spell_limit = raised(random, order.spell_limit);
     let shift_limit = raised(random, order.shift_limit).max(spell_limit);
@@ -53,6 +54,7 @@ fn easier_order(random: &mut Random, order: &Order) -> Order {
     let rest_time = lowered(random, order.rest_time).max(break_time);
     let spell = lowered(random, order.spell);
     let shift = lowered(random, order.shift).max(spell);
+    let [first_part, second_part] = easier_parts(random, order, break_time);
     Order {
         spell,
         shift,
@@ -60,8 +62,18 @@ fn easier_order(random: &mut Random, order: &Order) -> Order {
         break_time,
         shift_limit,
         rest_time,
+        first_part,
+        second_part,
         ..*order
     }
+}
+
+/// Parts no longer than they were, and within the shorter break; where there was no split, any.
+fn easier_parts(random: &mut Random, order: &Order, break_time: u64) -> [u64; 2] {
+    if !order.has_split() {
+        return random_parts(random, break_time);
+    }
+    [order.first_part, order.second_part].map(|part| lowered(random, part).clamp(1, break_time))
 }
 
 fn raised(random: &mut Random, value: u64) -> u64 {

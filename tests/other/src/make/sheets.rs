@@ -1,8 +1,8 @@
 //! Sheets to retime and audit: true ones made by wandering, and spoilt ones for refusals 15 to 19.
 
 use super::random::Random;
-use crate::moves::{Move, State, Trip};
-use crate::order::Order;
+use crate::moves::{Document, Move, State, Trip, BREAK, FIRST, REST, SECOND};
+use crate::order::{Order, LATEST_CLOCK};
 use crate::sheet::{Record, Sheet, RECORD_BYTES, SHEET_HEADER_BYTES};
 use crate::words::{put_word, word};
 
@@ -16,6 +16,7 @@ pub struct Timing {
 
 /// A sheet for a trip, with the trip's order or one fitted to the sheet.
 pub fn random_timing(random: &mut Random, trip: &Trip) -> Timing {
+    let trip = &with_time_to_pause(random, trip);
     let (steps, states) = wander(random, trip);
     let mut sheet = true_sheet(random, &steps, &states).bytes();
     for _ in 0..random.pick(&[0, 0, 0, 1, 1, 2]) {
@@ -27,15 +28,31 @@ pub fn random_timing(random: &mut Random, trip: &Trip) -> Timing {
     }
 }
 
-/// Some moves from the start, mostly legal ones, and the states from the start on.
+/// Often with a latest that leaves time for several pauses: the states need not be listed here.
+fn with_time_to_pause(random: &mut Random, trip: &Trip) -> Trip {
+    let mut patient = trip.clone();
+    let order = &mut patient.order;
+    if random.one_in(2) {
+        let more = 4 * order.rest_time + 4 * order.spell_limit;
+        order.latest = (order.latest + more).min(LATEST_CLOCK);
+    }
+    patient
+}
+
+/// Some moves from the start, mostly legal ones, and the states from the start on. A pause that the
+/// rules do not offer leaves the state.
 fn wander(random: &mut Random, trip: &Trip) -> (Vec<Move>, Vec<State>) {
     let mut states = vec![trip.start()];
     let mut steps = Vec::new();
     for _ in 0..random.between(0, 7) {
         let here = states[states.len() - 1];
-        let mut moves = trip.legal_moves(&here);
+        let mut moves = trip.legal_moves::<Document>(&here);
         if moves.is_empty() || random.one_in(12) {
-            moves = trip.offered_moves(&here);
+            moves = trip.offered_moves::<Document>(&here);
+        }
+        if random.one_in(3) {
+            let step = any_pause(random, &here);
+            moves = vec![(step, trip.after(&here, step).unwrap_or(here))];
         }
         if moves.is_empty() {
             break;
@@ -45,6 +62,14 @@ fn wander(random: &mut Random, trip: &Trip) -> (Vec<Move>, Vec<State>) {
         states.push(after);
     }
     (steps, states)
+}
+
+/// A pause of any kind, offered or not.
+fn any_pause(random: &mut Random, here: &State) -> Move {
+    Move {
+        kind: random.pick(&[BREAK, REST, FIRST, FIRST, SECOND, SECOND]),
+        number: here.junction,
+    }
 }
 
 fn true_sheet(random: &mut Random, steps: &[Move], states: &[State]) -> Sheet {
@@ -57,7 +82,8 @@ fn true_sheet(random: &mut Random, steps: &[Move], states: &[State]) -> Sheet {
     Sheet::ending_at(&states[states.len() - 1], labels, records)
 }
 
-/// Often with the target where the moves end, and a limit or latest just met or just missed.
+/// Often with the target where the moves end, and a limit or latest just met or just missed, or
+/// without a split.
 fn fitted_order(random: &mut Random, order: &Order, states: &[State]) -> Order {
     let mut fitted = order.clone();
     if !random.one_in(4) {
@@ -65,10 +91,11 @@ fn fitted_order(random: &mut Random, order: &Order, states: &[State]) -> Order {
     }
     let missed_by = random.below(2);
     let highest = |figure: fn(&State) -> u64| states.iter().map(figure).max().expect("the start");
-    match random.below(8) {
+    match random.below(9) {
         0 => fitted.latest = highest(|s| s.clock).saturating_sub(missed_by),
         1 => fitted.spell_limit = highest(|s| s.spell).saturating_sub(missed_by),
         2 => fitted.shift_limit = highest(|s| s.shift).saturating_sub(missed_by),
+        3 => [fitted.first_part, fitted.second_part] = [0, 0],
         _ => {}
     }
     fitted
@@ -114,7 +141,7 @@ fn damage_figure(random: &mut Random, sheet: &mut [u8]) {
 }
 
 fn damage_record(random: &mut Random, record: &mut [u8], roads: u64) {
-    let kind = random.pick(&[0, 1, 2, 3, 4, 257, ALL_BITS]);
+    let kind = random.pick(&[0, 1, 2, 3, 4, 5, 5, 6, 257, ALL_BITS]);
     let road = random.between(0, roads + 1);
     let number = random.pick(&[0, road, road, roads + 1, ALL_BITS]);
     match random.below(4) {

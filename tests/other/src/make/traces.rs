@@ -5,11 +5,13 @@
 use super::damage::damage_order_word;
 use super::orders::random_hours;
 use super::random::Random;
+use crate::moves::Document;
+use crate::operations::{LentFigures, LentRules};
 use crate::order::Order;
-use crate::planning::Document;
 use crate::probe::Probe;
 use crate::replay::{
-    figures_after, TraceRecord, DRIVING, LONGEST_ACTIVITY, OTHER_WORK, PAUSE, TRACE_RECORD_BYTES,
+    figures_after, Hours, TraceRecord, DRIVING, LONGEST_ACTIVITY, OTHER_WORK, PAUSE,
+    TRACE_RECORD_BYTES,
 };
 use crate::words::word;
 
@@ -19,8 +21,8 @@ const ALL_BITS: u64 = u32::MAX as u64;
 #[derive(Clone, Debug)]
 pub struct Replay {
     pub trace: Vec<u8>,
-    pub rules: [u32; 4],
-    pub figures: [u32; 2],
+    pub rules: LentRules,
+    pub figures: LentFigures,
 }
 
 impl Replay {
@@ -39,35 +41,38 @@ const UNITS: [u64; 6] = [1, 2, 3, 7, 3_600, 333_333];
 
 pub fn random_replay(random: &mut Random) -> Replay {
     let unit = random.pick(&UNITS);
-    let order = random_hours(random, unit);
-    let mut records = random_records(random, &order);
+    let hours = Hours {
+        order: random_hours(random, unit),
+        marked: random.one_in(2),
+    };
+    let mut records = random_records(random, &hours);
     for _ in 0..random.pick(&[0, 0, 0, 0, 1, 1, 2, 3]) {
-        damage_record(random, &mut records, &order);
+        damage_record(random, &mut records, &hours.order);
     }
     let mut trace = TraceRecord::all_bytes(&records);
     if random.one_in(10) {
         tear(random, &mut trace);
     }
-    let mut words = order.bytes();
+    let mut words = hours.order.bytes();
     for _ in 0..random.pick(&[0, 0, 0, 0, 0, 0, 1, 2]) {
-        let number = 4 + random.index(6);
+        let number = 4 + random.index(8);
         damage_order_word(random, &mut words, number);
     }
     let word = |number: usize| word(&words, 4 * number) as u32;
     Replay {
         trace,
-        rules: [6, 7, 8, 9].map(word),
-        figures: [4, 5].map(word),
+        rules: [6, 7, 8, 9, 10, 11].map(word),
+        figures: [word(4), word(5), u32::from(hours.marked)],
     }
 }
 
-fn random_records(random: &mut Random, order: &Order) -> Vec<TraceRecord> {
+fn random_records(random: &mut Random, hours: &Hours) -> Vec<TraceRecord> {
     let mut records = Vec::new();
     for _ in 0..random.pick(&[0, 1, 2, 4, 8, 16]) {
         match random.below(8) {
-            0..=3 => add_driving(random, order, &mut records),
+            0..=3 => add_driving(random, hours, &mut records),
             4 => records.push(other_work(random)),
-            _ => add_pauses(random, order, &mut records),
+            _ => add_pauses(random, &hours.order, &mut records),
         }
     }
     records
@@ -75,8 +80,9 @@ fn random_records(random: &mut Random, order: &Order) -> Vec<TraceRecord> {
 
 /// As much driving as a limit allows, less, or, seldom, a second more. Mostly none where none is
 /// allowed.
-fn add_driving(random: &mut Random, order: &Order, records: &mut Vec<TraceRecord>) {
-    let [spell, shift] = figures_after::<Document>(records, order);
+fn add_driving(random: &mut Random, hours: &Hours, records: &mut Vec<TraceRecord>) {
+    let order = &hours.order;
+    let [spell, shift] = figures_after::<Document>(records, hours);
     let left = order.spell_limit.saturating_sub(spell);
     let allowed = left.min(order.shift_limit.saturating_sub(shift));
     let any = random.between(1, allowed.max(1));
@@ -97,15 +103,19 @@ fn other_work(random: &mut Random) -> TraceRecord {
     record(OTHER_WORK, seconds)
 }
 
-/// A pause about as long as a break or a rest, whole or in parts: neighbours, which make one pause,
-/// or with other work between them, which makes several.
+/// A pause about as long as a break, a rest or a part of a split, whole or cut up: neighbours, which
+/// make one pause, or with other work between them, which makes several.
 fn add_pauses(random: &mut Random, order: &Order, records: &mut Vec<TraceRecord>) {
-    let needed = random.pick(&[order.break_time, order.rest_time]);
+    let (break_time, rest_time) = (order.break_time, order.rest_time);
+    let needed = match [order.first_part, order.second_part] {
+        [0, 0] => random.pick(&[break_time, rest_time]),
+        [first, second] => random.pick(&[first, first, second, second, break_time, rest_time]),
+    };
     let shorter = random.between(1, needed);
     let length = random.pick(&[shorter, needed - 1, needed, needed, needed + 1]);
-    let parts = random.pick(&[1, 1, 2, 2, 3]);
+    let pieces = random.pick(&[1, 1, 2, 2, 3]);
     let is_apart = random.one_in(3);
-    for (index, seconds) in cut(random, length, parts).into_iter().enumerate() {
+    for (index, seconds) in cut(random, length, pieces).into_iter().enumerate() {
         if is_apart && index > 0 {
             records.push(other_work(random));
         }
@@ -113,14 +123,14 @@ fn add_pauses(random: &mut Random, order: &Order, records: &mut Vec<TraceRecord>
     }
 }
 
-/// So many seconds in at most so many parts of at least one second each.
-fn cut(random: &mut Random, length: u64, parts: usize) -> Vec<u64> {
+/// So many seconds in at most so many pieces of at least one second each.
+fn cut(random: &mut Random, length: u64, pieces: usize) -> Vec<u64> {
     let mut left = length;
     let mut cut = Vec::new();
-    while left > 1 && cut.len() + 1 < parts {
-        let part = random.between(1, left - 1);
-        cut.push(part);
-        left -= part;
+    while left > 1 && cut.len() + 1 < pieces {
+        let piece = random.between(1, left - 1);
+        cut.push(piece);
+        left -= piece;
     }
     if left > 0 {
         cut.push(left);

@@ -38,20 +38,22 @@ pub fn map_t() -> Map {
     map
 }
 
-/// The European order of the trial trips.
+/// The European order of the trial trips, which has no split.
 pub fn order_t() -> Order {
-    let [spell_limit, break_time, shift_limit, rest_time] = EUROPEAN_RULES;
+    Order {
+        first_part: 0,
+        second_part: 0,
+        ..order_t_split()
+    }
+}
+
+/// The same with Europe's parts.
+pub fn order_t_split() -> Order {
     Order {
         source: 1,
         target: 3,
-        departure: 0,
         latest: 100_000,
-        spell: 0,
-        shift: 0,
-        spell_limit,
-        break_time,
-        shift_limit,
-        rest_time,
+        ..Order::of_hours(EUROPEAN_RULES, [0, 0])
     }
 }
 
@@ -79,19 +81,13 @@ pub fn small_map(car_parks: &[u64], roads: &[(u64, u64, u64)]) -> Map {
     map
 }
 
-/// Limits that small maps never meet.
+/// Limits that small maps never meet, and no split.
 pub fn small_order(source: u64, target: u64) -> Order {
     Order {
         source,
         target,
-        departure: 0,
         latest: 1_000,
-        spell: 0,
-        shift: 0,
-        spell_limit: 100,
-        break_time: 2,
-        shift_limit: 100,
-        rest_time: 20,
+        ..Order::of_hours([100, 2, 100, 20, 0, 0], [0, 0])
     }
 }
 

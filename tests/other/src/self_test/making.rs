@@ -9,9 +9,9 @@ use crate::lettering;
 use crate::make::practice::{draw, practice_map, USUAL_START};
 use crate::make::{case, Case};
 use crate::mapcheck::check_map;
-use crate::moves::{State, Trip};
+use crate::moves::{Document, State, Trip};
 use crate::operations::DOCUMENT;
-use crate::planning::{reachable_states, undominated, Document};
+use crate::planning::{reachable_states, undominated};
 use crate::probe::{answer, Probe};
 use crate::reply::{Reply, BAD_JUNCTION, BAD_LETTERING};
 use crate::sheet::sheet_bytes;
@@ -72,6 +72,8 @@ pub fn pairs_make_nothing_worse() {
         assert_eq!(a[..4], b[..4]);
         assert!([4, 5, 7, 9].iter().all(|number| b[*number] <= a[*number]));
         assert!([6, 8].iter().all(|number| b[*number] >= a[*number]));
+        let split = |words: &[u64; 12]| words[10] != 0;
+        assert!(!split(&a) || split(&b) && b[10] <= a[10] && b[11] <= a[11]);
     }
 }
 
@@ -110,13 +112,15 @@ pub fn plans_pass_their_audit() {
 }
 
 /// Wrong copies that the laws alone must find, without a second implementation.
-const UNLAWFUL: [&str; 6] = [
+const UNLAWFUL: [&str; 8] = [
     "full-when-just-enough",
     "invented-count",
     "sheet-unwritten",
     "pauses-joined-across-work",
     "refused-trace-half-replayed",
     "pause-at-the-end-unjudged",
+    "lent-mark-ignored",
+    "mark-not-handed-back",
 ];
 
 pub fn laws_notice_wrong_copies() {

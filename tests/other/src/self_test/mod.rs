@@ -6,6 +6,7 @@ mod map_cases;
 mod order_cases;
 mod plan_cases;
 mod sheet_cases;
+mod split_cases;
 mod trace_cases;
 mod trial_trips;
 
@@ -40,6 +41,7 @@ pub fn tests() -> Vec<Test> {
         map_cases::chain_making,
         order_cases::length,
         order_cases::charges,
+        order_cases::charges_of_parts,
         order_cases::last_values_pass,
         plan_cases::source_is_target,
         plan_cases::rank_ends_with_junction,
@@ -65,6 +67,14 @@ pub fn tests() -> Vec<Test> {
         trace_cases::limits,
         trace_cases::odd_records,
         trace_cases::order_of_refusals,
+        split_cases::map_t_with_the_parts_of_europe,
+        split_cases::split_beats_the_break,
+        split_cases::rank_puts_the_marked_one_first,
+        split_cases::dominance_with_the_mark,
+        split_cases::moves_of_a_split,
+        split_cases::replayed_pauses,
+        split_cases::replayed_pauses_are_judged_whole,
+        split_cases::refused_traces_leave_the_mark,
         making::practice_maps,
         making::pairs_make_nothing_worse,
         making::dominance_by_pairs_agrees,

@@ -21,8 +21,9 @@ pub fn length() {
     let bytes = order_t().bytes();
     assert_eq!(check(&bytes), (0, 0));
     assert_eq!(check(&[]), (9, 0));
-    assert_eq!(check(&bytes[..39]), (9, 39));
-    assert_eq!(check(&[&bytes[..], b"x"].concat()), (9, 41));
+    assert_eq!(check(&bytes[..40]), (9, 40));
+    assert_eq!(check(&bytes[..47]), (9, 47));
+    assert_eq!(check(&[&bytes[..], b"x"].concat()), (9, 49));
 }
 
 /// Words by number with their new values, and the refusal with its place.
@@ -61,8 +62,27 @@ pub fn charges() {
     }
 }
 
+pub fn charges_of_parts() {
+    let cases: [Charge; 11] = [
+        (&[(10, 0), (11, 1)], (10, 10)),
+        (&[(10, 1), (11, 0)], (10, 11)),
+        (&[(10, 2_701), (11, 0)], (10, 10)),
+        (&[(10, 0), (11, 2_701)], (10, 10)),
+        (&[(10, 2_701), (11, 1_800)], (10, 10)),
+        (&[(10, 900), (11, 2_701)], (10, 11)),
+        (&[(10, ALL_BITS), (11, ALL_BITS)], (10, 10)),
+        (&[(7, 899), (10, 900), (11, 1_800)], (10, 10)),
+        (&[(7, 0), (10, 900), (11, 1_800)], (10, 7)),
+        (&[(9, 0), (11, 1)], (10, 9)),
+        (&[(0, 0), (11, 1)], (10, 10)),
+    ];
+    for (changes, reply) in cases {
+        assert_eq!(check_with(changes), reply, "{changes:?}");
+    }
+}
+
 pub fn last_values_pass() {
-    let cases: [&[(usize, u64)]; 8] = [
+    let cases: [&[(usize, u64)]; 12] = [
         &[(0, 3)],
         &[(2, 100_000)],
         &[(3, 2_000_000_000)],
@@ -71,6 +91,10 @@ pub fn last_values_pass() {
         &[(6, 1), (8, 1)],
         &[(6, 1_000_000), (8, 1_000_000)],
         &[(7, 1_000_000), (9, 1_000_000)],
+        &[(10, 900), (11, 1_800)],
+        &[(10, 1), (11, 1)],
+        &[(10, 2_700), (11, 2_700)],
+        &[(7, 1), (10, 1), (11, 1)],
     ];
     for changes in cases {
         assert_eq!(check_with(changes), (0, 0), "{changes:?}");

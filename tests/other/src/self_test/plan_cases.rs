@@ -21,9 +21,9 @@ pub fn source_is_target() {
     let plan = plan_sheet(&map, &order);
     assert_eq!((plan.arrival, plan.spell, plan.shift), (9, 40, 50));
     assert_eq!((plan.labels, plan.records.len()), (1, 0));
-    assert_eq!(planned(&map, &order, 8, 20).0, Reply::success(1, 9));
-    assert_eq!(planned(&map, &order, 7, 20).0, refused(12, 0));
-    assert_eq!(planned(&map, &order, 8, 19).0, refused(14, 20));
+    assert_eq!(planned(&map, &order, 9, 20).0, Reply::success(1, 9));
+    assert_eq!(planned(&map, &order, 8, 20).0, refused(12, 0));
+    assert_eq!(planned(&map, &order, 9, 19).0, refused(14, 20));
 }
 
 /// Equal figures at a lower junction than target's are counted, at a higher one not.
@@ -37,7 +37,7 @@ pub fn rank_ends_with_junction() {
 pub fn only_labels_are_counted() {
     let map = small_map(&[0; 5], &[(1, 2, 1), (1, 3, 5), (1, 4, 6), (1, 5, 7)]);
     assert_eq!(
-        planned(&map, &small_order(1, 2), 16, 32).0,
+        planned(&map, &small_order(1, 2), 18, 32).0,
         Reply::success(2, 1)
     );
 }
@@ -90,7 +90,7 @@ pub fn tired_driver_pauses_at_source() {
 pub fn no_journey() {
     let mut order = order_t();
     (order.source, order.target) = (3, 1);
-    assert_eq!(planned(&map_t(), &order, 8, 0).0, refused(13, 1));
+    assert_eq!(planned(&map_t(), &order, 9, 0).0, refused(13, 1));
     // From Lay: the start and End; pauses of a fresh driver are dominated.
     order.source = 2;
     assert_eq!(planned(&map_t(), &order, 800, 0).0, refused(13, 2));
@@ -101,17 +101,17 @@ pub fn no_journey() {
 
 pub fn full_before_no_road_and_short_sheet() {
     let mut order = order_t();
-    assert_eq!(planned(&map_t(), &order, 24, 0).0, refused(12, 3));
+    assert_eq!(planned(&map_t(), &order, 27, 0).0, refused(12, 3));
     order.latest = 20_699;
-    assert_eq!(planned(&map_t(), &order, 23, 0).0, refused(12, 2));
-    assert_eq!(planned(&map_t(), &order, 24, 0).0, refused(13, 3));
+    assert_eq!(planned(&map_t(), &order, 26, 0).0, refused(12, 2));
+    assert_eq!(planned(&map_t(), &order, 27, 0).0, refused(13, 3));
 }
 
 pub fn labels_that_fit() {
-    for (words, labels) in [(0, 0), (7, 0), (8, 1), (15, 1), (8_000_000, 1_000_000)] {
+    for (words, labels) in [(0, 0), (8, 0), (9, 1), (17, 1), (9_000_000, 1_000_000)] {
         assert_eq!(planning::labels_that_fit(words), labels);
     }
-    assert_eq!(planning::labels_that_fit(8_000_008), 1_000_000);
+    assert_eq!(planning::labels_that_fit(9_000_009), 1_000_000);
 }
 
 pub fn map_and_order_come_first() {

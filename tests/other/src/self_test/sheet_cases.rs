@@ -71,6 +71,8 @@ pub fn moves_that_are_refused() {
     for (kind, number) in [
         (0, 1),
         (4, 1),
+        (5, 1),
+        (6, 1),
         (257, 1),
         (1, 0),
         (1, 2),

@@ -1,33 +1,51 @@
 //! Replaying traces under the European rules: limits of 16,200 and 32,400 seconds, a break of 2,700
-//! and a rest of 39,600.
+//! and a rest of 39,600, without a split.
 
 use super::fixtures::*;
 use crate::operations::DOCUMENT;
+use crate::operations::{LentFigures, LentRules};
 use crate::order::EUROPEAN_RULES;
 use crate::replay::{DRIVING, OTHER_WORK, PAUSE};
 use crate::reply::Reply;
 use crate::words::bytes_of;
 
 const EUROPEAN: [u32; 4] = [16_200, 2_700, 32_400, 39_600];
+const NO_SPLIT: [u32; 2] = [0, 0];
 const TIRED: [u32; 2] = [16_200, 32_400];
 
-fn trace(records: &[(u64, u64)]) -> Vec<u8> {
+pub fn trace(records: &[(u64, u64)]) -> Vec<u8> {
     let words = |&(activity, seconds): &(u64, u64)| [activity, seconds];
     bytes_of(&records.iter().flat_map(words).collect::<Vec<u64>>())
 }
 
 /// The reply and the figures afterwards.
-fn replayed(trace: &[u8], rules: [u32; 4], before: [u32; 2]) -> (Reply, [u32; 2]) {
+pub fn replayed(trace: &[u8], rules: LentRules, before: LentFigures) -> (Reply, LentFigures) {
     let mut figures = before;
     let reply = (DOCUMENT.replay)(trace, rules, &mut figures);
     (reply, figures)
+}
+
+/// The same without a split and without the mark, which then is never set.
+fn replayed_whole(trace: &[u8], rules: [u32; 4], before: [u32; 2]) -> (Reply, [u32; 2]) {
+    let ([spell_limit, break_time, shift_limit, rest_time], [first, second]) = (rules, NO_SPLIT);
+    let rules = [
+        spell_limit,
+        break_time,
+        shift_limit,
+        rest_time,
+        first,
+        second,
+    ];
+    let (reply, [spell, shift, mark]) = replayed(trace, rules, [before[0], before[1], 0]);
+    assert_eq!(mark, 0);
+    (reply, [spell, shift])
 }
 
 /// All records are taken, and these are the figures afterwards.
 fn expect(records: &[(u64, u64)], before: [u32; 2], after: [u32; 2]) {
     let taken = Reply::success(records.len() as u64, 0);
     assert_eq!(
-        replayed(&trace(records), EUROPEAN, before),
+        replayed_whole(&trace(records), EUROPEAN, before),
         (taken, after),
         "{records:?}"
     );
@@ -36,7 +54,7 @@ fn expect(records: &[(u64, u64)], before: [u32; 2], after: [u32; 2]) {
 /// A refusal leaves the figures as they were.
 fn expect_refused(trace: &[u8], rules: [u32; 4], figures: [u32; 2], number: u64, place: u64) {
     let expected = (refused(number, place), figures);
-    assert_eq!(replayed(trace, rules, figures), expected);
+    assert_eq!(replayed_whole(trace, rules, figures), expected);
 }
 
 fn expect_odd_or_past(records: &[(u64, u64)], figures: [u32; 2], number: u64, place: u64) {
@@ -44,7 +62,7 @@ fn expect_odd_or_past(records: &[(u64, u64)], figures: [u32; 2], number: u64, pl
 }
 
 pub fn nothing_to_replay() {
-    assert_eq!(EUROPEAN.map(u64::from), EUROPEAN_RULES);
+    assert_eq!(EUROPEAN.map(u64::from), EUROPEAN_RULES[..4]);
     expect(&[], [0, 0], [0, 0]);
     expect(&[], [15, 20], [15, 20]);
     expect(&[], TIRED, TIRED);

@@ -3,7 +3,7 @@
 use super::fixtures::*;
 use crate::listing::listings;
 use crate::map::{road_time, Road};
-use crate::moves::{State, Trip, DRIVE};
+use crate::moves::{Document, Mark, State, Trip, DRIVE};
 use crate::order::{Order, EUROPEAN_RULES};
 use crate::reply::Reply;
 use crate::sheet::Sheet;
@@ -33,13 +33,13 @@ fn plan_t() -> Sheet {
 }
 
 pub fn map_t_is_planned() {
-    let (reply, sheet) = planned(&map_t(), &order_t(), 32, 56);
+    let (reply, sheet) = planned(&map_t(), &order_t(), 36, 56);
     assert_eq!(reply, Reply::success(4, 20_700));
     assert_eq!(sheet, plan_t().bytes());
 }
 
 pub fn three_labels_are_full() {
-    for label_words in [24, 31] {
+    for label_words in [27, 35] {
         let (reply, sheet) = planned(&map_t(), &order_t(), label_words, 56);
         assert_eq!(reply, refused(12, 3));
         assert_eq!(sheet, [MARK; 56]);
@@ -63,7 +63,7 @@ pub fn spell_just_met_and_just_missed() {
         let mut order = order_t();
         (order.source, order.spell, order.shift) = (2, spell, spell);
         let trip = Trip::open(&map_t().bytes(), &order.bytes()).expect("an accepted run");
-        let mut moves = trip.legal_moves(&trip.start());
+        let mut moves = trip.legal_moves::<Document>(&trip.start());
         moves.retain(|(step, _)| step.kind == DRIVE);
         assert_eq!(moves.len(), usize::from(legal));
     }
@@ -74,6 +74,7 @@ pub fn dominance() {
         clock,
         spell,
         shift,
+        mark: Mark::Unmarked,
         junction,
     };
     let (early, fresh) = (
@@ -123,5 +124,6 @@ refused 13 3
 }
 
 pub fn european_figures() {
-    assert_eq!(EUROPEAN_RULES, [16_200, 2_700, 32_400, 39_600]);
+    let expected = [16_200, 2_700, 32_400, 39_600, 900, 1_800];
+    assert_eq!(EUROPEAN_RULES, expected);
 }
