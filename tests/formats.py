@@ -1,9 +1,10 @@
-"""Maps, orders and sheets as bytes, in the formats of document 01, and traces in that of document 02 (P3)."""
+"""Maps, orders and sheets as bytes, in the formats of documents 01 and 02 (P5), and traces in that of document 02 (P3)."""
 import struct
 
 ALL_BITS = 0xFFFFFFFF
-EUROPE = [1, 3, 0, 100000, 0, 0, 16200, 2700, 32400, 39600]
-DRIVE, BREAK, REST = 1, 2, 3
+EUROPE = [1, 3, 0, 100000, 0, 0, 16200, 2700, 32400, 39600, 0, 0]  # map T's order, which has no split
+EUROPE_SPLIT = EUROPE[:10] + [900, 1800]
+DRIVE, BREAK, REST, FIRST_PART, SECOND_PART = 1, 2, 3, 4, 5
 WORK, DRIVING, PAUSE = 0, 1, 2
 
 # What the program prints of map T and its order, as document 01 has it.
@@ -59,7 +60,7 @@ def chained(junctions, roads):
 
 
 def order(base=EUROPE, **at):
-    """The order of ten words; `w3=7` makes word 3 a 7."""
+    """The order of twelve words; `w3=7` makes word 3 a 7."""
     w = list(base)
     for key, value in at.items():
         w[int(key[1:])] = value

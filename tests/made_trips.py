@@ -5,7 +5,8 @@ from formats import ALL_BITS, chained, order
 def small_trip(dice):
     """A map of a few junctions and an order on it; short limits and few different road times make pauses and ties.
 
-    About every second road takes half a second more than a whole number, before rounding.
+    About every second road takes half a second more than a whole number, before rounding. Two of three orders have a
+    split break.
     """
     count = dice.randint(1, 7)
     junctions = [("".join(dice.choices("ab c", k=dice.randint(1, 4))), dice.random() < 0.6) for _ in range(count)]
@@ -13,14 +14,16 @@ def small_trip(dice):
     ends += [(dice.randint(1, count), dice.randint(1, count)) for _ in range(dice.randint(0, count))]
     dice.shuffle(ends)
     roads = [(begin, end, 5 * dice.randint(1, 12), 36) for begin, end in ends]
-    spell_limit, break_time = dice.randint(5, 12), dice.randint(1, 5)
+    spell_limit, break_time = dice.randint(5, 12), dice.randint(1, 6)
     shift_limit, rest_time = spell_limit + dice.randint(0, 8), break_time + dice.randint(0, 8)
+    parts = dice.choice([(0, 0), (1, 1), (dice.randint(1, break_time), dice.randint(1, break_time))])
     shift = dice.choice([0, dice.randint(0, shift_limit)])
     spell = dice.randint(0, min(shift, spell_limit))
     departure = dice.choice([0, dice.randint(0, 1999999900)])
     target = dice.choice([count, dice.randint(1, count)])
     trip = [dice.randint(1, (count + 1) // 2), target, departure, departure + dice.randint(0, 70)]
-    return chained(junctions, roads).bytes(), order(trip + [spell, shift, spell_limit, break_time, shift_limit, rest_time])
+    hours = [spell, shift, spell_limit, break_time, shift_limit, rest_time, *parts]
+    return chained(junctions, roads).bytes(), order(trip + hours)
 
 
 def line(count):

@@ -3,7 +3,7 @@
 The expected replies are written here by hand from documents 01 and 02; nothing is taken from the program.
 """
 from case_files import case
-from formats import ALL_BITS, Map, map_t, words
+from formats import ALL_BITS, EUROPE_SPLIT, Map, map_t, words
 from formats import order as changed
 
 
@@ -149,8 +149,10 @@ check("broken chain and bad letter: the chain", road(1, NEXT, 0)[:-1] + b"\x7f",
 # --- order check -----------------------------------------------------------------------------
 order("European order 1 to 3", 3, changed(), "0 0 0")
 order("no order", 3, b"", "9 0 0")
-order("39 bytes", 3, changed()[:-1], "9 39 0")
-order("41 bytes", 3, changed() + b"x", "9 41 0")
+order("47 bytes", 3, changed()[:-1], "9 47 0")
+order("49 bytes", 3, changed() + b"x", "9 49 0")
+order("40 bytes, as before the split break", 3, changed()[:40], "9 40 0")
+order("52 bytes", 3, changed() + words(0), "9 52 0")
 order("source 0", 3, changed(w0=0), "11 0 0")
 order("source J", 3, changed(w0=3), "0 0 0")
 order("source above J", 3, changed(w0=4), "11 0 0")
@@ -185,6 +187,33 @@ order("bad rules and bad source: the rules", 3, changed(w0=0, w9=0), "10 9 0")
 order("bad shift limit and bad break: the break's word", 3, changed(w7=0, w8=0), "10 7 0")
 order("bad target and bad latest: the target", 3, changed(w1=0, w3=ALL_BITS), "11 1 0")
 order("short order with bad rules: the length", 3, changed(w6=0)[:8], "9 8 0")
+
+# --- the parts of a split break: each 1 up to the break, or both 0; a lone zero is charged itself ------------
+order("Europe's parts", 3, changed(EUROPE_SPLIT), "0 0 0")
+order("no split", 3, changed(w10=0, w11=0), "0 0 0")
+order("parts of a second", 3, changed(w10=1, w11=1), "0 0 0")
+order("both parts as long as the break", 3, changed(w10=2700, w11=2700), "0 0 0")
+order("a first part as long as the break", 3, changed(w10=2700, w11=1), "0 0 0")
+order("a second part as long as the break", 3, changed(w10=1, w11=2700), "0 0 0")
+order("parts of a break of a second", 3, changed(w7=1, w10=1, w11=1), "0 0 0")
+order("the longest parts", 3, changed(w7=1000000, w9=1000000, w10=1000000, w11=1000000), "0 0 0")
+order("a longer first part than second", 3, changed(w10=1800, w11=900), "0 0 0")
+order("a lone zero first part", 3, changed(w11=1800), "10 10 0")
+order("a lone zero second part", 3, changed(w10=900), "10 11 0")
+order("first part above the break", 3, changed(w10=2701, w11=1800), "10 10 0")
+order("second part above the break", 3, changed(w10=900, w11=2701), "10 11 0")
+order("both parts above the break", 3, changed(w10=2701, w11=2701), "10 10 0")
+order("first part above the break, second a lone zero", 3, changed(w10=2701), "10 10 0")
+order("first part a lone zero, second above the break", 3, changed(w11=2701), "10 10 0")
+order("first part of all bits", 3, changed(w10=ALL_BITS, w11=1), "10 10 0")
+order("second part of all bits", 3, changed(w10=1, w11=ALL_BITS), "10 11 0")
+order("a first part between break and rest", 3, changed(w10=39600, w11=1800), "10 10 0")
+order("parts above a shorter break", 3, changed(EUROPE_SPLIT, w7=1799), "10 11 0")
+order("both parts above a shorter break", 3, changed(EUROPE_SPLIT, w7=899), "10 10 0")
+order("break 0 with parts: the break's word", 3, changed(EUROPE_SPLIT, w7=0), "10 7 0")
+order("rest 0 and a lone zero part: the rest's word", 3, changed(w9=0, w11=1), "10 9 0")
+order("a lone zero part and a bad source: the part", 3, changed(w0=0, w10=1), "10 11 0")
+order("47 bytes with a lone zero part: the length", 3, changed(w11=1)[:-1], "9 47 0")
 
 # --- names -----------------------------------------------------------------------------------
 name("name of 1", 1, T, "0 3 0", "Hub")

@@ -5,7 +5,7 @@ number is written by hand, and the other planner gives the rest. Nothing is take
 roads come back to a junction, latest is near, since the other planner lists every reachable state.
 """
 from case_files import case
-from formats import ALL_BITS, BREAK, DRIVE, EUROPE, REST, chained, map_t, order, sheet, words
+from formats import ALL_BITS, BREAK, DRIVE, EUROPE, EUROPE_SPLIT, FIRST_PART, REST, SECOND_PART, chained, map_t, order, sheet, words
 from made_trips import line, practice_map
 
 T = map_t().bytes()
@@ -13,6 +13,7 @@ T_ROWS = [(DRIVE, 1, 10800), (BREAK, 2, 13500), (DRIVE, 2, 20700)]
 T_ANSWER = (20700, 7200, 18000)
 PARK, NO_PARK = True, False
 MARK = 0xEEEEEEEE
+LABEL_WORDS = 9
 
 
 def plan(title, trunk, orders, answer, label_words, lent, before=MARK, computed=False):
@@ -28,7 +29,7 @@ def planned(title, trunk, orders, labels, answer, rows, label_words=None, length
     """Room for exactly the plan's labels, and a sheet with four bytes more than it needs, if not told otherwise."""
     arrival, spell, shift = answer
     written = sheet(rows, arrival, spell, shift, labels)
-    label_words = 8 * labels if label_words is None else label_words
+    label_words = LABEL_WORDS * labels if label_words is None else label_words
     lent = unwritten(len(written) + 4 if length is None else length)
     after = written + lent[len(written) :]
     plan(title, trunk, orders, "0 %d %d %s" % (labels, arrival, after.hex()), label_words, lent, before)
@@ -41,7 +42,7 @@ def refused(title, trunk, orders, number, place, label_words=80, length=80, befo
     plan(title, trunk, orders, "%d %d 0 %s%s" % (number, place, lent.hex(), kept), label_words, lent, before)
 
 
-def computed(title, number, trunk, orders, label_words=1600, length=400):
+def computed(title, number, trunk, orders, label_words=1800, length=400):
     plan(title, trunk, orders, "%d " % number, label_words, unwritten(length), computed=True)
 
 
@@ -62,7 +63,7 @@ ONE_TO_FOUR = [1, 4] + EUROPE[2:]
 
 # --- document 01's trial trips -------------------------------------------------------------------
 planned("T, four labels", T, order(), 4, T_ANSWER, T_ROWS)
-refused("T, three labels: full", T, order(), 12, 3, label_words=24)
+refused("T, three labels: full", T, order(), 12, 3, label_words=27)
 planned("T, latest 20,700", T, order(w3=20700), 4, T_ANSWER, T_ROWS)
 refused("T, latest 20,699: no road", T, order(w3=20699), 13, 3)
 planned("T, sheet of 56 bytes", T, order(), 4, T_ANSWER, T_ROWS, length=56)
@@ -90,10 +91,11 @@ SHORTER_BY_ROUNDING = chained([("A", NO_PARK), ("B", NO_PARK), ("C", NO_PARK)], 
 planned("the first to arrive by rounded times", SHORTER_BY_ROUNDING.bytes(), order(), 3, (2, 2, 2), [(DRIVE, 2, 1), (DRIVE, 3, 2)])
 
 # --- label space and sheet -----------------------------------------------------------------------
-planned("T, room for 512 labels", T, order(), 4, T_ANSWER, T_ROWS, label_words=4096)
-planned("T, 8N + 7 words", T, order(), 4, T_ANSWER, T_ROWS, label_words=39)
-refused("T, one word too few", T, order(), 12, 3, label_words=31)
-refused("T, 7 words: no label fits", T, order(), 12, 0, label_words=7)
+planned("T, room for 455 labels", T, order(), 4, T_ANSWER, T_ROWS, label_words=4096)
+planned("T, 9N + 8 words", T, order(), 4, T_ANSWER, T_ROWS, label_words=44)
+refused("T, 9N - 1 words", T, order(), 12, 3, label_words=35)
+refused("T, four labels of eight words: full", T, order(), 12, 3, label_words=32)
+refused("T, 8 words: no label fits", T, order(), 12, 0, label_words=8)
 refused("T, no words", T, order(), 12, 0, label_words=0)
 planned("T, label words of zeros", T, order(), 4, T_ANSWER, T_ROWS, before=0)
 planned("T, label words of ones", T, order(), 4, T_ANSWER, T_ROWS, before=1)
@@ -101,17 +103,17 @@ planned("T, label words of all bits", T, order(), 4, T_ANSWER, T_ROWS, before=AL
 planned("T, a long sheet keeps its tail", T, order(), 4, T_ANSWER, T_ROWS, length=200)
 refused("T, no sheet", T, order(), 14, 56, length=0)
 refused("T, sheet of the header alone", T, order(), 14, 56, length=20)
-refused("no room and no sheet: full", T, order(), 12, 3, label_words=24, length=0)
-refused("no room and no journey: full", T, order(w3=20699), 12, 2, label_words=16)
-refused("no journey and room for exactly its labels", T, order(w3=20699), 13, 3, label_words=24)
+refused("no room and no sheet: full", T, order(), 12, 3, label_words=27, length=0)
+refused("no room and no journey: full", T, order(w3=20699), 12, 2, label_words=18)
+refused("no journey and room for exactly its labels", T, order(w3=20699), 13, 3, label_words=27)
 refused("no journey and no sheet: no road", T, order(w3=20699), 13, 3, length=0)
 
 # --- source is target ----------------------------------------------------------------------------
 HOME = order(w0=2, w1=2, w2=77, w4=5, w5=6)
 planned("source is target", T, HOME, 1, (77, 5, 6), [])
-planned("source is target, 20 bytes and 8 words", T, HOME, 1, (77, 5, 6), [], label_words=8, length=20)
+planned("source is target, 20 bytes and 9 words", T, HOME, 1, (77, 5, 6), [], label_words=9, length=20)
 refused("source is target, 19 bytes", T, HOME, 14, 20, length=19)
-refused("source is target, no label fits", T, HOME, 12, 0, label_words=7)
+refused("source is target, no label fits", T, HOME, 12, 0, label_words=8)
 planned("source is target on a map without roads", chained([("A", NO_PARK)], []).bytes(), order(w1=1), 1, (0, 0, 0), [])
 LAST_SECOND = [2, 2, 2000000000, 2000000000] + EUROPE[4:]
 planned("departure at 2,000,000,000, source is target", T, order(LAST_SECOND), 1, (2000000000, 0, 0), [])
@@ -145,7 +147,7 @@ planned(
     (20000, 7300, 17300),
     [(DRIVE, 2, 10000), (BREAK, 2, 12700), (DRIVE, 3, 13000), (DRIVE, 4, 20000)],
 )
-refused("the slower lorry, one label too few", HOURS, order(ONE_TO_FOUR), 12, 5, label_words=47)
+refused("the slower lorry, one label too few", HOURS, order(ONE_TO_FOUR), 12, 5, label_words=53)
 planned("the faster lorry where the last road is short", trip_map([NO_PARK, PARK, NO_PARK, NO_PARK], [(1, 3, 10000), (1, 2, 10000), (2, 3, 300), (3, 4, 6200)]), order(ONE_TO_FOUR), 6, (16200, 16200, 16200), [(DRIVE, 1, 10000), (DRIVE, 4, 16200)])
 
 # --- ties -------------------------------------------------------------------------------------------
@@ -208,6 +210,67 @@ refused("a road one second above the spell limit", one_road(360012, 80), order(O
 refused("a road that meets the shift limit but for the hours behind", one_road(360000, 80), order(ONE_TO_TWO, w5=16201), 13, 1)
 planned("a road that meets the shift limit with the hours behind", one_road(360000, 80), order(ONE_TO_TWO, w5=16200), 2, (16200, 16200, 32400), [(DRIVE, 1, 16200)])
 
+# --- the split break (document 02, P5) ----------------------------------------------------------------
+# With Europe's parts T has two labels more, at Lay with the mark: at 11,700 tired, at 14,400 after the break.
+T_PARTS = order(EUROPE_SPLIT)
+planned("T with Europe's parts", T, T_PARTS, 6, T_ANSWER, T_ROWS)
+planned("T with Europe's parts, 9N + 8 words", T, T_PARTS, 6, T_ANSWER, T_ROWS, label_words=62)
+refused("T with Europe's parts, 9N - 1 words", T, T_PARTS, 12, 5, label_words=53)
+planned("T with Europe's parts, latest 20,700", T, order(EUROPE_SPLIT, w3=20700), 6, T_ANSWER, T_ROWS)
+refused("T with Europe's parts, latest 20,699", T, order(EUROPE_SPLIT, w3=20699), 13, 5)
+T_SPLIT_ROWS = [(DRIVE, 1, 10800), (FIRST_PART, 2, 11700), (SECOND_PART, 2, 13499), (DRIVE, 2, 20699)]
+planned("parts a second shorter than the break", T, order(EUROPE_SPLIT, w11=1799), 6, (20699, 7200, 18000), T_SPLIT_ROWS)
+planned("parts a second longer than the break", T, order(EUROPE_SPLIT, w11=1801), 6, T_ANSWER, T_ROWS)
+planned("each part as long as the break", T, order(w10=2700, w11=2700), 6, T_ANSWER, T_ROWS)
+planned(
+    "parts of a second, latest just met",
+    T,
+    order(w3=18002, w10=1, w11=1),
+    6,
+    (18002, 7200, 18000),
+    [(DRIVE, 1, 10800), (FIRST_PART, 2, 10801), (SECOND_PART, 2, 10802), (DRIVE, 2, 18002)],
+)
+planned("a longer first part than second", T, order(w10=1700, w11=900), 6, (20600, 7200, 18000), [(DRIVE, 1, 10800), (FIRST_PART, 2, 12500), (SECOND_PART, 2, 13400), (DRIVE, 2, 20600)])
+refused("a lone zero first part", T, order(w11=1800), 10, 10)
+refused("a lone zero second part", T, order(w10=900), 10, 11)
+refused("a second part above the break", T, order(w10=900, w11=2701), 10, 11)
+
+# B and C are car parks. Parts of 2 and 5 seconds beat the break of 10; the first is taken at B, whose label with the
+# mark is the lowest that leads on to C's. No earlier state without the mark may prune it, or the break is the best.
+ON_THE_WAY = trip_map([NO_PARK, PARK, PARK, NO_PARK], [(1, 2, 4), (2, 3, 6), (3, 4, 5)])
+SHORT_PARTS = [1, 4, 0, 50, 0, 0, 10, 10, 100, 100, 2, 5]
+planned(
+    "a first part at one car park and the second at the next",
+    ON_THE_WAY,
+    order(SHORT_PARTS),
+    10,
+    (22, 5, 15),
+    [(DRIVE, 1, 4), (FIRST_PART, 2, 6), (DRIVE, 2, 12), (SECOND_PART, 3, 17), (DRIVE, 3, 22)],
+)
+WHOLE_BREAK = [(DRIVE, 1, 4), (DRIVE, 2, 10), (BREAK, 3, 20), (DRIVE, 3, 25)]
+planned("the same trip without a split", ON_THE_WAY, order(SHORT_PARTS, w10=0, w11=0), 6, (25, 5, 15), WHOLE_BREAK)
+planned("parts together as long as the break: the break", ON_THE_WAY, order(SHORT_PARTS, w11=8), 10, (25, 5, 15), WHOLE_BREAK)
+refused("the split trip, a label short", ON_THE_WAY, order(SHORT_PARTS), 12, 9, label_words=89)
+
+# Two ways need a rest; on the shorter one, 2 seconds shorter, a first part of 2 seconds behind it leaves a state with the
+# mark and with the answer's figures. It ranks before the answer, whatever the numbers of their junctions.
+for target, elsewhere in ((4, 5), (5, 4)):
+    planned(
+        "the marked one first: target %d, marked at %d" % (target, elsewhere),
+        trip_map([NO_PARK, PARK, PARK, NO_PARK, NO_PARK], [(1, 2, 5), (2, target, 6), (1, 3, 3), (3, elsewhere, 6)]),
+        order([1, target, 0, 21, 0, 0, 8, 4, 8, 10, 2, 3]),
+        16,
+        (21, 6, 6),
+        [(DRIVE, 1, 5), (REST, 2, 15), (DRIVE, 2, 21)],
+    )
+AT_SOURCE = [1, 2, 0, 100000, 9000, 9000] + EUROPE[6:10] + [900, 1700]
+planned("both parts at source", AWAY, order(AT_SOURCE), 5, (12600, 10000, 19000), [(FIRST_PART, 1, 900), (SECOND_PART, 1, 2600), (DRIVE, 1, 12600)])
+refused("a start carries no mark: the first part is needed too", AWAY, order(AT_SOURCE, w3=12599), 13, 4)
+refused("parts where no car park is", trip_map([NO_PARK, PARK], [(1, 2, 10000)]), order(AT_SOURCE), 13, 1)
+planned("a second part does not clear shift: the rest", AWAY, order([1, 2] + EUROPE_SPLIT[2:], w5=32400), 5, (49600, 10000, 10000), [(REST, 1, 39600), (DRIVE, 1, 49600)])
+refused("every junction reached with the mark counts too", trip_map([PARK, NO_PARK, NO_PARK, NO_PARK], [(1, 2, 10), (2, 3, 10)]), order([1, 4] + EUROPE_SPLIT[2:]), 13, 6)
+planned("source is target, with a split", T, order([2, 2, 77, 100000, 5, 6] + EUROPE_SPLIT[6:]), 1, (77, 5, 6), [])
+
 # --- roads to their own junction --------------------------------------------------------------------
 planned("roads to their own junction are no labels", trip_map([PARK, NO_PARK], [(1, 1, 10), (1, 2, 100), (2, 2, 10), (1, 1, 5)]), order(ONE_TO_TWO, w3=150), 2, (100, 100, 100), [(DRIVE, 2, 100)])
 refused("a road to its own junction is no journey", trip_map([PARK, NO_PARK], [(1, 1, 10)]), order(ONE_TO_TWO, w3=300), 13, 1)
@@ -230,22 +293,26 @@ refused("bad junction", in_t(36, 2), order(), 5, 2)
 refused("bad road", in_t(76, 4), order(), 6, 1)
 refused("broken chain", in_t(80, 0), order(), 7, 3)
 refused("bad lettering", T[:-1] + b"\x7f", order(), 8, 132)
-refused("an order of 39 bytes", T, order()[:-1], 9, 39)
-refused("an order of 41 bytes", T, order() + b"x", 9, 41)
+refused("an order of 40 bytes", T, order()[:40], 9, 40)
+refused("an order of 47 bytes", T, order()[:-1], 9, 47)
+refused("an order of 49 bytes", T, order() + b"x", 9, 49)
 refused("bad rules", T, order(w7=0), 10, 7)
 refused("bad trip", T, order(w1=4), 11, 1)
-refused("bad trip before full and short sheet", T, order(w4=16201, w5=16201), 11, 4, label_words=7, length=0)
+refused("bad trip before full and short sheet", T, order(w4=16201, w5=16201), 11, 4, label_words=8, length=0)
 refused("bad lettering before bad order", T[:-1] + b"\x7f", b"", 8, 132, label_words=9, before=0)
 
 # --- longer trips, from the other planner -------------------------------------------------------------
 LINE_END = [1, 40, 5, 44] + EUROPE[4:]
-computed("a line of forty junctions", 0, line(40), order(LINE_END), label_words=320, length=488)
-computed("a line of forty junctions, a label short", 12, line(40), order(LINE_END), label_words=319, length=488)
-computed("a line of forty junctions, a byte short", 14, line(40), order(LINE_END), label_words=320, length=487)
-computed("a line of forty junctions, a second short", 13, line(40), order(LINE_END, w3=43), label_words=320)
+computed("a line of forty junctions", 0, line(40), order(LINE_END), label_words=360, length=488)
+computed("a line of forty junctions, a label short", 12, line(40), order(LINE_END), label_words=359, length=488)
+computed("a line of forty junctions, a byte short", 14, line(40), order(LINE_END), label_words=360, length=487)
+computed("a line of forty junctions, a second short", 13, line(40), order(LINE_END, w3=43), label_words=360)
 PRACTICE = practice_map(60)
 for target, latest in ((15, 14000), (30, 12000), (60, 14000)):
     computed("a practice map of 60 junctions, 1 to %d" % target, 0, PRACTICE, order(w1=target, w3=latest))
 TIRED = [18, 30, 0, 59000, 16000, 32000] + EUROPE[6:]
 computed("a practice map, a rest at source and a break on the way", 0, PRACTICE, order(TIRED))
+SPLIT_TIRED = TIRED[:6] + EUROPE_SPLIT[6:]
+computed("a practice map, a rest at source and Europe's parts", 0, PRACTICE, order(SPLIT_TIRED), label_words=4096)
+computed("a practice map, a rest at source and shorter parts", 0, PRACTICE, order(SPLIT_TIRED, w11=900), label_words=4096)
 computed("a practice map, on to the next car park before the rest", 0, PRACTICE, order(TIRED, w0=57, w1=45, w3=48000))

@@ -14,7 +14,7 @@ import sys
 import tempfile
 
 import other_planner
-from formats import EUROPE, T_LISTING, Map, chained, map_t, order
+from formats import EUROPE, EUROPE_SPLIT, T_LISTING, Map, chained, map_t, order
 from made_trips import line, practice_map, small_trip
 
 BUILT = pathlib.Path(__file__).resolve().parent.parent / "target" / "bin" / "plan"
@@ -43,13 +43,13 @@ def listed_run(title, trunk, orders, asked=None, part=""):
     LISTED.append((title, trunk, orders, asked or orders, part))
 
 
-def practice_run(title, target, near, part):
+def practice_run(title, target, near, part, base=EUROPE):
     """The program has a far latest, and the other planner, which lists every reachable state, is asked with a near one.
 
     What it plans, or finds full, under the near latest is so under the far one too: every move raises the clock, so up
     to the near latest both have the same reachable states, and only states that rank no higher than the answer count.
     """
-    listed_run(title, PRACTICE, order(w1=target), order(w1=target, w3=near), part)
+    listed_run(title, PRACTICE, order(base, w1=target), order(base, w1=target, w3=near), part)
 
 
 def with_names(length):
@@ -77,30 +77,32 @@ run("a folder in the order's place", "refused 9 0\n", T, FOLDER)
 run("empty files", "refused 1 0\n", b"", b"")
 run("a bad road", "refused 6 2\n", bad_road(), order())
 run("a broken map comes before a missing order", "refused 4 133\n", T + b"x")
-run("an order of 41 bytes", "refused 9 41\n", T, order() + b"x")
+run("an order of 40 bytes", "refused 9 40\n", T, order()[:40])
+run("an order of 49 bytes", "refused 9 49\n", T, order() + b"x")
 run("an order of 5,000 bytes", "refused 9 5000\n", T, b"x" * 5000)
 run("bad rules", "refused 10 9\n", T, order(w9=0))
+run("a lone zero part", "refused 10 11\n", T, order(w10=900))
 run("bad trip", "refused 11 0\n", T, order(w0=4))
 
 # --- reads that are short or fail ----------------------------------------------------------------------
 # One failure makes the file empty, whatever the reads after it say. No file does so when asked; any row of short, failed
 # and whole reads can be made, since the program takes `read` from the C library when it starts.
 read_run("a map in short reads", T_LISTING, "map", "1 2 3 100")
-read_run("an order in short reads", T_LISTING, "order", "39 1")
+read_run("an order in short reads", T_LISTING, "order", "47 1")
 read_run("a map whose first read fails", "refused 1 0\n", "map", "-1")
 read_run("an order whose first read fails", "refused 9 0\n", "order", "-1")
 read_run("a map whose second read fails", "refused 1 0\n", "map", "100 -1")
 read_run("a map whose every read fails after the first", "refused 1 0\n", "map", "100 -1 -1 -1")
 read_run("a map of which map T is read before a failure", "refused 1 0\n", "map", "133 -1", T + b"x")
-read_run("an order of which 40 bytes are read before a failure", "refused 9 0\n", "order", "40 -1", orders=order() + b"x")
+read_run("an order of which 48 bytes are read before a failure", "refused 9 0\n", "order", "48 -1", orders=order() + b"x")
 read_run("a map that fails where its end would be told", "refused 1 0\n", "map", "133 -1")
 read_run("a map that fails one byte before it is too big", "refused 1 0\n", "map", "65536 -1", with_names(MOST_BYTES + 1))
 read_run("a map that would fail after it is too big", "too big\n", "map", "65537 -1", with_names(MOST_BYTES + 2))
 
 # --- 64 KiB --------------------------------------------------------------------------------------------
-run("map and order of 65,536 bytes", T_LISTING, with_names(MOST_BYTES - 40), order())
-run("a map one byte longer", "too big\n", with_names(MOST_BYTES - 39), order())
-run("an order one byte longer", "too big\n", with_names(MOST_BYTES - 40), order() + b"x")
+run("map and order of 65,536 bytes", T_LISTING, with_names(MOST_BYTES - 48), order())
+run("a map one byte longer", "too big\n", with_names(MOST_BYTES - 47), order())
+run("an order one byte longer", "too big\n", with_names(MOST_BYTES - 48), order() + b"x")
 run("a map of 65,536 bytes alone", "refused 9 0\n", with_names(MOST_BYTES))
 run("a map of 65,537 bytes alone", "too big\n", with_names(MOST_BYTES + 1))
 run("an order of 65,536 bytes alone", "refused 1 0\n", orders=b"x" * MOST_BYTES)
@@ -119,6 +121,15 @@ drive 3 xxxxxxxxxxxxxxxxxxxxxxxxxxxxxxxx 74800
 arrive 74800 100 100 labels 9
 """
 run("a rest, names with spaces, a name of 32 bytes", REST_LISTING, REST_MAP.bytes(), order([1, 4] + EUROPE[2:]))
+SPLIT_LISTING = """\
+drive 1 Lay 10800
+first 2 Lay 11700
+second 2 Lay 13499
+drive 2 End 20699
+arrive 20699 7200 18000 labels 6
+"""
+run("a first and a second part", SPLIT_LISTING, T, order(EUROPE_SPLIT, w11=1799))
+run("T with Europe's parts", T_LISTING.replace("labels 4", "labels 6"), T, order(EUROPE_SPLIT))
 run("one name for two junctions", "drive 1 Elgstrup 1\narrive 1 1 1 labels 2\n", Map([[1, 0, 0, 8], [0, 0, 0, 8]], [[1, 2, 1, 130, 0]], b"Elgstrup").bytes(), order(w1=2))
 LINE_LISTING = "".join("drive %d x %d\n" % (k, k) for k in range(1, 1600)) + "arrive 1599 1599 1599 labels 1600\n"
 run("1,600 labels and 1,599 moves", LINE_LISTING, line(1600), order(w1=1600))
@@ -126,6 +137,8 @@ run("1,601 labels", "refused 12 1600\n", line(1601), order(w1=1601))
 PRACTICE = practice_map(1000)
 for target, arrival in ((5, 8271), (17, 26557), (500, 22292), (1000, 19228)):
     practice_run("a practice map of 1,000 junctions, 1 to %d" % target, target, arrival, "arrive %d " % arrival)
+for target, arrival in ((5, 8271), (500, 22292)):
+    practice_run("a practice map with Europe's parts, 1 to %d" % target, target, arrival, "arrive %d " % arrival, EUROPE_SPLIT)
 practice_run("a practice map, exactly 1,600 labels", 297, 28806, "labels 1600\n")
 practice_run("a practice map, 2,064 labels", 112, 32085, "refused 12 1600\n")
 

@@ -4,7 +4,7 @@ The expected replies and figures are written here by hand from documents 01 and 
 from the program.
 """
 from case_files import case
-from formats import ALL_BITS, BREAK, DRIVE, Map, map_t, order, sheet, words
+from formats import ALL_BITS, BREAK, DRIVE, EUROPE_SPLIT, FIRST_PART, REST, SECOND_PART, Map, map_t, order, sheet, words
 
 T = map_t().bytes()
 
@@ -16,7 +16,7 @@ def loop(metres, speed):
 
 LOOP = loop(1250, 90)  # 50 seconds
 ROUNDED_LOOP = loop(1251, 90)  # 50.04 seconds, so 50 since document 02 (P2), and 51 before
-HOME = [1, 1, 7, 100000, 5, 6, 16200, 2700, 32400, 39600]
+HOME = [1, 1, 7, 100000, 5, 6, 16200, 2700, 32400, 39600, 0, 0]
 PLAN = [(DRIVE, 1, 10800), (BREAK, 2, 13500), (DRIVE, 2, 20700)]
 TRUE = sheet(PLAN, 20700, 7200, 18000)
 
@@ -126,3 +126,70 @@ retime("stray and short sheet: stray", T, order(), sheet(PLAN[:1]), 0, "19 2 0")
 retime("short by one byte", T, order(), TRUE, 55, "14 56 0")
 retime("no sheet at all", T, order(), TRUE, 0, "14 56 0")
 retime("no moves, 19 bytes", LOOP, order(HOME), sheet([]), 19, "14 20 0")
+
+# --- the split break (document 02, P5) -------------------------------------------------------------
+SPLIT = order(EUROPE_SPLIT)
+PARTS = [(DRIVE, 1, 10800), (FIRST_PART, 2, 11700), (SECOND_PART, 2, 13500), (DRIVE, 2, 20700)]
+BY_PARTS = sheet(PARTS, 20700, 7200, 18000)
+AT_HOME = HOME[:10] + EUROPE_SPLIT[10:]
+
+
+def timed(title, trunk, orders, rows, arrival, spell, shift):
+    """Moves that retiming writes, whatever clocks it is given, and that audit accepts."""
+    written = sheet(rows, arrival, spell, shift)
+    given = sheet([(kind, number, 0) for kind, number, _ in rows])
+    reply = "0 %d %d" % (len(rows), arrival)
+    retime("retime: " + title, trunk, orders, given, len(written), reply, written)
+    audit("audit: " + title, trunk, orders, written, reply)
+
+
+def foreign(title, trunk, orders, rows, move):
+    """The clocks before the foreign move are true, so that audit comes to it too."""
+    both(title, trunk, orders, sheet(rows), "16 %d 0" % move)
+
+
+timed("a first part, then a second", T, SPLIT, PARTS, 20700, 7200, 18000)
+timed("T's plan with Europe's parts", T, SPLIT, PLAN, 20700, 7200, 18000)
+timed("other parts take other times", T, order(w10=100, w11=200), [(DRIVE, 1, 10800), (FIRST_PART, 2, 10900), (SECOND_PART, 2, 11100), (DRIVE, 2, 18300)], 18300, 7200, 18000)
+timed("parts that end at latest", T, order(EUROPE_SPLIT, w3=20700), PARTS, 20700, 7200, 18000)
+timed("a first part leaves spell", T, order(EUROPE_SPLIT, w6=18000), [(DRIVE, 1, 10800), (FIRST_PART, 2, 11700), (DRIVE, 2, 18900)], 18900, 18000, 18000)
+timed("a first part with the mark set already", T, SPLIT, PARTS[:2] + [(FIRST_PART, 2, 12600), (SECOND_PART, 2, 14400), (DRIVE, 2, 21600)], 21600, 7200, 18000)
+timed("first, second, first, second", T, SPLIT, PARTS[:3] + [(FIRST_PART, 2, 14400), (SECOND_PART, 2, 16200), (DRIVE, 2, 23400)], 23400, 7200, 18000)
+timed("a break clears spell with the mark", T, SPLIT, PARTS[:2] + [(BREAK, 2, 14400), (DRIVE, 2, 21600)], 21600, 7200, 18000)
+timed("a rest clears both with the mark", T, SPLIT, PARTS[:2] + [(REST, 2, 51300), (DRIVE, 2, 58500)], 58500, 7200, 7200)
+timed("a first part again after a break", T, SPLIT, PARTS[:2] + [(BREAK, 2, 14400), (FIRST_PART, 2, 15300), (SECOND_PART, 2, 17100), (DRIVE, 2, 24300)], 24300, 7200, 18000)
+timed("a drive keeps the mark", LOOP, order(AT_HOME), [(FIRST_PART, 1, 907), (DRIVE, 1, 957), (SECOND_PART, 1, 2757)], 2757, 0, 56)
+timed("two drives keep the mark", LOOP, order(AT_HOME), [(FIRST_PART, 1, 907), (DRIVE, 1, 957), (DRIVE, 1, 1007), (SECOND_PART, 1, 2807)], 2807, 0, 106)
+timed("a mark left at the end", LOOP, order(AT_HOME), [(FIRST_PART, 1, 907)], 907, 5, 6)
+timed("parts as long as the break", LOOP, order(AT_HOME, w10=2700, w11=2700), [(FIRST_PART, 1, 2707), (SECOND_PART, 1, 5407)], 5407, 0, 6)
+
+foreign("a second part without the mark", T, SPLIT, [PARTS[0], (SECOND_PART, 2, 12600)], 2)
+foreign("a start carries no mark", LOOP, order(AT_HOME), [(SECOND_PART, 1, 1807)], 1)
+foreign("two second parts after one first", T, SPLIT, PARTS[:3] + [(SECOND_PART, 2, 15300)], 4)
+foreign("a second part after a break", T, SPLIT, PARTS[:2] + [(BREAK, 2, 14400), (SECOND_PART, 2, 16200)], 4)
+foreign("a second part after a rest", T, SPLIT, PARTS[:2] + [(REST, 2, 51300), (SECOND_PART, 2, 53100)], 4)
+foreign("a second part after a break alone", T, SPLIT, PLAN[:2] + [(SECOND_PART, 2, 15300)], 3)
+foreign("a first part without a split", T, order(), PARTS, 2)
+foreign("a second part without a split", T, order(), [PARTS[0], (SECOND_PART, 2, 12600)], 2)
+foreign("a first part where no car park is", T, SPLIT, [(FIRST_PART, 1, 900)] + PLAN, 1)
+ONE_PARK = Map([[1, 1, 0, 1], [0, 0, 0, 1]], [[1, 2, 1250, 90, 0]], b"x").bytes()
+foreign("a second part where no car park is", ONE_PARK, order(EUROPE_SPLIT, w1=2), [(FIRST_PART, 1, 900), (DRIVE, 1, 950), (SECOND_PART, 2, 2750)], 3)
+foreign("a first part of another number", T, SPLIT, [PARTS[0], (FIRST_PART, 1, 11700)], 2)
+foreign("a second part of another number", T, SPLIT, PARTS[:2] + [(SECOND_PART, 3, 13500)], 3)
+foreign("a first part of number 0", T, SPLIT, [PARTS[0], (FIRST_PART, 0, 11700)], 2)
+foreign("a second part of number all bits", T, SPLIT, PARTS[:2] + [(SECOND_PART, ALL_BITS, 13500)], 3)
+foreign("kind 6 with a split", T, SPLIT, [PARTS[0], (6, 2, 11700)], 2)
+foreign("kind 0 with the mark", T, SPLIT, PARTS[:2] + [(0, 2, 11700)], 3)
+foreign("kind 260, a first part by its low byte", T, SPLIT, [PARTS[0], (260, 2, 11700)], 2)
+
+both("a first part that ends after latest", T, order(EUROPE_SPLIT, w3=11699), BY_PARTS, "17 2 0")
+both("a second part that ends after latest", T, order(EUROPE_SPLIT, w3=13499), BY_PARTS, "17 3 0")
+both("a first part does not clear spell", T, SPLIT, sheet(PARTS[:2] + [(DRIVE, 2, 18900)], 18900, 7200, 18000), "17 3 0")
+both("a second part does not clear shift", T, order(EUROPE_SPLIT, w8=17999), BY_PARTS, "17 4 0")
+both("ends at Lay with the mark", T, SPLIT, sheet(PARTS[:2], 11700, 10800, 10800), "19 2 0")
+audit("false clock of a first part", T, SPLIT, sheet([PARTS[0], (FIRST_PART, 2, 11701)] + PARTS[2:], 20700, 7200, 18000), "18 2 0")
+audit("false clock of a second part", T, SPLIT, sheet(PARTS[:2] + [(SECOND_PART, 2, 12600), PARTS[3]], 20700, 7200, 18000), "18 3 0")
+audit("false spell after a first part", LOOP, order(AT_HOME), sheet([(FIRST_PART, 1, 907)], 907, 0, 6), "18 2 0")
+audit("false shift after a second part", LOOP, order(AT_HOME), sheet([(FIRST_PART, 1, 907), (SECOND_PART, 1, 2707)], 2707, 0, 0), "18 3 0")
+both("a lone zero part and torn sheet: the part", T, order(w11=1800), b"", "10 10 0")
+both("an order of 40 bytes", T, order()[:40], TRUE, "9 40 0")

@@ -1,11 +1,12 @@
 """Worked cases of replaying a trace.
 
-The expected replies and figures are written here by hand from document 02 (P3); nothing is taken from the program.
+The expected replies and figures are written here by hand from document 02 (P3 and P5); nothing is taken from the program.
 """
 from case_files import case
-from formats import ALL_BITS, DRIVING, EUROPE, PAUSE, WORK, trace, words
+from formats import ALL_BITS, DRIVING, EUROPE, EUROPE_SPLIT, PAUSE, WORK, trace, words
 
-EUROPEAN = tuple(EUROPE[6:])  # spell limit 16,200, break 2,700, shift limit 32,400, rest 39,600
+EUROPEAN = tuple(EUROPE[6:10])  # spell limit 16,200, break 2,700, shift limit 32,400, rest 39,600
+PARTS = tuple(EUROPE_SPLIT[6:])  # the same and parts of 900 and 1,800
 LEAST = (1, 1, 1, 1)
 GREATEST = (1000000, 1000000, 1000000, 1000000)
 FRESH = (0, 0)  # spell, shift
@@ -14,8 +15,11 @@ MOST = 1000000  # the most seconds of a record
 
 
 def replay(title, given, before, rules, reply, after):
-    """In the order's place stand its words 4 to 9, in the sheet's the trace; the figures afterwards are printed too."""
-    case("t", title, "%s %d %d" % (reply, *after), order=words(*before, *rules), sheet=given)
+    """In the order's place stand its words 4 to 11, in the number's the mark and in the sheet's the trace; the figures
+    afterwards are printed too. Rules of four words have no split, and two figures no mark."""
+    (spell, shift, mark), after = [figures + (0,) * (3 - len(figures)) for figures in (before, after)]
+    rules += (0,) * (6 - len(rules))
+    case("t", title, "%s %d %d %d" % (reply, *after), number=mark, order=words(spell, shift, *rules), sheet=given)
 
 
 def replayed(title, records, before, after, rules=EUROPEAN):
@@ -180,3 +184,100 @@ figured("both of all bits", (ALL_BITS, ALL_BITS), 4)
 replayed("figures at their limits pass", [], (16200, 32400), (16200, 32400))
 replayed("spell may be shift", [], (15, 15), (15, 15))
 refused("figures that a rest would mend", [(PAUSE, 39600)], 11, 5, (0, 32401))
+
+# --- the split break (document 02, P5): parts of 900 and 1,800 seconds -------------------------------------
+UNMARKED, MARKED = (15, 20, 0), (15, 20, 1)
+BROKEN = (0, 20, 0)  # spell and mark cleared
+
+
+def split(title, records, before, after):
+    replayed("split: " + title, records, before, after, PARTS)
+
+
+split("an empty trace leaves the mark", [], MARKED, MARKED)
+split("an empty trace sets none", [], UNMARKED, UNMARKED)
+split("driving keeps the mark", [(DRIVING, 5)], MARKED, (20, 25, 1))
+split("other work keeps the mark", [(WORK, 39600)], MARKED, MARKED)
+for seconds, unmarked, marked in (
+    (1, UNMARKED, MARKED),
+    (899, UNMARKED, MARKED),
+    (900, MARKED, MARKED),
+    (901, MARKED, MARKED),
+    (1799, MARKED, MARKED),
+    (1800, MARKED, BROKEN),
+    (1801, MARKED, BROKEN),
+    (2699, MARKED, BROKEN),
+    (2700, BROKEN, BROKEN),
+    (39599, BROKEN, BROKEN),
+    (39600, (0, 0, 0), (0, 0, 0)),
+    (MOST, (0, 0, 0), (0, 0, 0)),
+):
+    split("unmarked, a pause of %d" % seconds, [(PAUSE, seconds)], UNMARKED, unmarked)
+    split("marked, a pause of %d" % seconds, [(PAUSE, seconds)], MARKED, marked)
+
+# A pause is judged whole, with the mark from before it.
+split("neighbours of 900 are one pause of 1,800", [(PAUSE, 900), (PAUSE, 900)], UNMARKED, MARKED)
+split("neighbours of 900 and 1,799", [(PAUSE, 900), (PAUSE, 1799)], UNMARKED, MARKED)
+split("neighbours of 900 and 1,800 are a break", [(PAUSE, 900), (PAUSE, 1800)], UNMARKED, BROKEN)
+split("three neighbours of 600 are one of 1,800", [(PAUSE, 600)] * 3, UNMARKED, MARKED)
+split("neighbours of 450 are a first part", [(PAUSE, 450), (PAUSE, 450)], UNMARKED, MARKED)
+split("neighbours of 450 and 449 are none", [(PAUSE, 450), (PAUSE, 449)], UNMARKED, UNMARKED)
+split("marked, 1,000 and 800 are a second part", [(PAUSE, 1000), (PAUSE, 800)], MARKED, BROKEN)
+split("marked, 1,000 and 799 are none", [(PAUSE, 1000), (PAUSE, 799)], MARKED, MARKED)
+split("marked, 1,800 and 899: a second part that goes on", [(PAUSE, 1800), (PAUSE, 899)], MARKED, BROKEN)
+split("marked, 1,800 and 900: a break", [(PAUSE, 1800), (PAUSE, 900)], MARKED, BROKEN)
+split("marked, 1,800 and 1,800: more than a break", [(PAUSE, 1800), (PAUSE, 1800)], MARKED, BROKEN)
+
+# Other work and driving end a pause, and so the parts are two.
+split("900, other work, 1,800", [(PAUSE, 900), (WORK, 1), (PAUSE, 1800)], UNMARKED, BROKEN)
+split("899, other work, 1,800 sets the mark", [(PAUSE, 899), (WORK, 1), (PAUSE, 1800)], UNMARKED, MARKED)
+split("900, other work, 1,799", [(PAUSE, 900), (WORK, 1), (PAUSE, 1799)], UNMARKED, MARKED)
+split("1,800, other work, 1,800", [(PAUSE, 1800), (WORK, 1), (PAUSE, 1800)], UNMARKED, BROKEN)
+split("1,800, other work, 900: the wrong way round", [(PAUSE, 1800), (WORK, 1), (PAUSE, 900)], UNMARKED, MARKED)
+split("900, other work, 900, other work, 1,800", [(PAUSE, 900), (WORK, 1), (PAUSE, 900), (WORK, 1), (PAUSE, 1800)], UNMARKED, BROKEN)
+split("900, driving, 1,800", [(PAUSE, 900), (DRIVING, 5), (PAUSE, 1800)], UNMARKED, (0, 25, 0))
+split("900, driving, 1,800, driving", [(PAUSE, 900), (DRIVING, 5), (PAUSE, 1800), (DRIVING, 7)], UNMARKED, (7, 32, 0))
+split("second, other work, first", [(PAUSE, 1800), (WORK, 1), (PAUSE, 900)], MARKED, (0, 20, 1))
+split("second, other work, second", [(PAUSE, 1800), (WORK, 1), (PAUSE, 1800)], MARKED, (0, 20, 1))
+split("a break between clears the mark", [(PAUSE, 900), (WORK, 1), (PAUSE, 2700), (DRIVING, 5), (PAUSE, 1800)], UNMARKED, (5, 25, 1))
+split("a rest between clears the mark", [(PAUSE, 900), (WORK, 1), (PAUSE, 39600), (DRIVING, 5), (PAUSE, 1800)], UNMARKED, (5, 5, 1))
+split("parts allow another spell", [(DRIVING, 9000), (PAUSE, 900), (DRIVING, 7200), (PAUSE, 1800), (DRIVING, 16200)], (0, 0, 0), (16200, 32400, 0))
+split("the pause of an earlier trace is not joined", [(PAUSE, 900)], MARKED, MARKED)
+
+# Without a split a shorter pause changes nothing; break and rest clear a mark that is lent.
+for seconds in (1, 900, 1800, 2699):
+    replayed("no split, marked, a pause of %d" % seconds, [(PAUSE, seconds)], MARKED, MARKED)
+    replayed("no split, unmarked, a pause of %d" % seconds, [(PAUSE, seconds)], UNMARKED, UNMARKED)
+replayed("no split, a break clears the mark", [(PAUSE, 2700)], MARKED, BROKEN)
+replayed("no split, a rest clears the mark", [(PAUSE, 39600)], MARKED, (0, 0, 0))
+
+# Parts as long as the break, equal parts, the first one longer.
+replayed("parts as long as the break: never a part", [(PAUSE, 2699)], UNMARKED, UNMARKED, EUROPEAN + (2700, 2700))
+replayed("parts as long as the break: a break", [(PAUSE, 2700)], UNMARKED, BROKEN, EUROPEAN + (2700, 2700))
+replayed("equal parts, unmarked", [(PAUSE, 900)], UNMARKED, MARKED, EUROPEAN + (900, 900))
+replayed("equal parts, marked", [(PAUSE, 900)], MARKED, BROKEN, EUROPEAN + (900, 900))
+replayed("a shorter second part, unmarked", [(PAUSE, 900)], UNMARKED, UNMARKED, EUROPEAN + (1800, 900))
+replayed("a shorter second part, marked", [(PAUSE, 900)], MARKED, BROKEN, EUROPEAN + (1800, 900))
+replayed("a shorter second part, unmarked, the first", [(PAUSE, 1800)], UNMARKED, MARKED, EUROPEAN + (1800, 900))
+replayed("parts of a second, two apart", [(PAUSE, 1), (WORK, 1), (PAUSE, 1)], UNMARKED, BROKEN, EUROPEAN + (1, 1))
+replayed("parts of a second, two neighbours", [(PAUSE, 1), (PAUSE, 1)], UNMARKED, MARKED, EUROPEAN + (1, 1))
+replayed("a break of a second leaves no part", [(PAUSE, 1)], MARKED, BROKEN, (16200, 1, 32400, 39600, 1, 1))
+
+# A refused trace leaves the mark, and the rules are judged as order words 6 to 11.
+for mark in (0, 1):
+    refused("split: past the limit behind a first part, mark %d" % mark, [(PAUSE, 900), (DRIVING, 16201)], 23, 2, (0, 0, mark), PARTS)
+    refused("split: odd behind a break, mark %d" % mark, [(PAUSE, 2700), (WORK, 0)], 22, 2, (15, 20, mark), PARTS)
+    refused("split: torn, mark %d" % mark, trace([(PAUSE, 2700)])[:7], 21, 7, (15, 20, mark), PARTS)
+    refused("split: bad figures, mark %d" % mark, [(PAUSE, 2700)], 11, 5, (2, 1, mark), PARTS)
+refused("a first part allows no other spell", [(DRIVING, 16200), (PAUSE, 900), (DRIVING, 1)], 23, 3, (0, 0, 0), PARTS)
+refused("a second part without the mark allows none", [(DRIVING, 16200), (PAUSE, 1800), (DRIVING, 1)], 23, 3, (0, 0, 0), PARTS)
+refused("a second part does not allow more of shift", [(PAUSE, 1800), (DRIVING, 1)], 23, 2, TIRED + (1,), PARTS)
+ruled("a lone zero first part", EUROPEAN + (0, 1800), 10)
+ruled("a lone zero second part", EUROPEAN + (900, 0), 11)
+ruled("a first part above the break", EUROPEAN + (2701, 1800), 10)
+ruled("a second part above the break", EUROPEAN + (900, 2701), 11)
+ruled("a first part above the break and a lone zero", EUROPEAN + (2701, 0), 10)
+ruled("a lone zero and a second part above the break", EUROPEAN + (0, 2701), 10)
+ruled("both parts of all bits", EUROPEAN + (ALL_BITS, ALL_BITS), 10)
+ruled("rest 0 before a lone zero part", (16200, 2700, 32400, 0, 0, 1800), 9)
+replayed("parts as long as the break pass", [], MARKED, MARKED, EUROPEAN + (2700, 2700))
