@@ -42,9 +42,9 @@ static void print_reply(const uint64_t *reply) {
 }
 
 static void print_move(const uint8_t *record) {
-    static const char *const kinds[] = {"", "drive", "break", "rest"};
+    static const char *const kinds[] = {"", "drive", "break", "rest", "first", "second"};
     uint32_t kind = word_at(record, 0), number = word_at(record, 4);
-    uint32_t reached = kind == 1 ? word_at(map, 16 + 16 * JUNCTIONS + 20 * (number - 1) + 4) : number;
+    uint32_t reached = kind == TRUNK_DRIVE ? word_at(map, 16 + 16 * JUNCTIONS + 20 * (number - 1) + 4) : number;
     uint64_t reply[3], part[2];
     trunk_name(map, sizeof map, reached, reply, 3, part, 2);
     printf("%s %u %.*s %u\n", kinds[kind], number, (int)part[1], (const char *)map + part[0], word_at(record, 8));

@@ -1,18 +1,21 @@
 /* Plans document 01's map T and prints the reply and the moves on the sheet. Run it by examples/run.sh. */
 #include "map_t.h"
 
-static const uint32_t order_words[10] = {
+enum { ORDER_WORDS = TRUNK_ORDER_BYTES / 4 };
+
+static const uint32_t order_words[ORDER_WORDS] = {
     1, 3, 0, 100000,           /* source, target, departure, latest arrival */
     0, 0,                      /* spell and shift so far */
     16200, 2700, 32400, 39600, /* the European limits and pauses */
+    0, 0,                      /* no split break */
 };
 
 int main(void) {
-    static uint8_t order[40], sheet[1000];
-    static uint32_t words[8 * 100]; /* room for 100 labels */
+    static uint8_t order[TRUNK_ORDER_BYTES], sheet[1000];
+    static uint32_t words[TRUNK_LABEL_WORDS * 100]; /* room for 100 labels */
     uint64_t reply[3];
     make_map();
-    put_words(order, order_words, 10);
+    put_words(order, order_words, ORDER_WORDS);
 
     trunk_plan(map, sizeof map, order, sizeof order, words, sizeof words / sizeof *words, sheet, sizeof sheet, reply, 3);
     print_reply(reply);

@@ -25,8 +25,8 @@
  *
  * Stack, measured with the library of this version. In its machine code frames are fixed and nothing recurses, and no
  * path through it reserves a hundred bytes more, the C library's memset aside:
- *     trunk_plan                197,575 bytes; leave TRUNK_PLAN_STACK_BYTES, 256 KiB
- *     every other function at most 49,783 bytes; leave TRUNK_STACK_BYTES, 64 KiB
+ *     trunk_plan                197,655 bytes; leave TRUNK_PLAN_STACK_BYTES, 256 KiB
+ *     every other function at most 49,831 bytes; leave TRUNK_STACK_BYTES, 64 KiB
  * The main thread (8 MiB as a rule) and threads of glibc and Rust with their usual size have enough.
  */
 #ifndef TRUNK_H
@@ -39,12 +39,14 @@
 extern "C" {
 #endif
 
-/* The largest map, and the stack to leave for a call. */
+/* The largest map, the lengths of an order and of a label, and the stack to leave for a call. */
 enum {
     TRUNK_MOST_JUNCTIONS = 12288,
     TRUNK_MOST_ROADS = 40960,
     TRUNK_MOST_NAME_BYTES = 1048576,
     TRUNK_MOST_MAP_BYTES = 16 + 16 * TRUNK_MOST_JUNCTIONS + 20 * TRUNK_MOST_ROADS + TRUNK_MOST_NAME_BYTES,
+    TRUNK_ORDER_BYTES = 48,          /* twelve words */
+    TRUNK_LABEL_WORDS = 9,           /* of label space */
     TRUNK_PLAN_STACK_BYTES = 262144, /* trunk_plan */
     TRUNK_STACK_BYTES = 65536,       /* every other function */
 };
@@ -57,8 +59,19 @@ enum {
     TRUNK_OTHER_WORK = 0,
     TRUNK_DRIVING = 1,
     TRUNK_PAUSE = 2,
-    TRUNK_RULE_WORDS = 4,   /* spell limit, break, shift limit, rest: words 6 to 9 of an order */
-    TRUNK_FIGURE_WORDS = 2, /* spell, shift: words 4 and 5 of an order */
+    TRUNK_RULE_WORDS = 6,   /* spell limit, break, shift limit, rest, first and second part: words 6 to 11 of an order */
+    TRUNK_FIGURE_WORDS = 3, /* spell, shift: words 4 and 5 of an order; and the mark of a first part, 0 without it */
+};
+
+/* The kinds of move on a sheet. A pause is taken at a car park. A first part and later a second part stand for a break
+ * where words 10 and 11 of the order, their lengths, are not both 0: the first sets a mark and leaves spell and shift, the
+ * second needs the mark, and clears it and spell. Break and rest clear the mark too; an order's start has none. */
+enum {
+    TRUNK_DRIVE = 1, /* by the road of the record's number; a pause has the junction's number */
+    TRUNK_BREAK = 2,
+    TRUNK_REST = 3,
+    TRUNK_FIRST_PART = 4,
+    TRUNK_SECOND_PART = 5,
 };
 
 /* What a reply's number says, and what its place is then. */
@@ -72,8 +85,8 @@ enum trunk_number {
     TRUNK_BAD_ROAD = 6,       /* any field: the lowest such road */
     TRUNK_BROKEN_CHAIN = 7,   /* a road off its chain or on another's: the lowest such road */
     TRUNK_BAD_LETTERING = 8,  /* a name byte outside 0x20 to 0x7E: its offset in the map, the lowest */
-    TRUNK_BAD_ORDER = 9,      /* the order is not 40 bytes: its length */
-    TRUNK_BAD_RULES = 10,     /* words 6 to 9 of the order, or the rules: the first such word, 6 to 9 */
+    TRUNK_BAD_ORDER = 9,      /* the order is not 48 bytes: its length */
+    TRUNK_BAD_RULES = 10,     /* words 6 to 11 of the order, or the rules: the first such word, 6 to 11 */
     TRUNK_BAD_TRIP = 11,      /* words 0 to 5 of the order, or the figures: the first such word, 0 to 5 */
     TRUNK_FULL = 12,          /* more labels are needed than fit: the labels that fit */
     TRUNK_NO_ROAD = 13,       /* no legal journey: how many labels there are */
@@ -100,10 +113,10 @@ void trunk_check_order(const uint8_t *order, size_t order_length,
                        uint32_t junctions,
                        uint64_t *reply, size_t reply_count);
 
-/* Planning. Reads the map and the order; writes the plan to the sheet, and uses `words` as label space, eight words a
- * label, at most 1,000,000 labels. What the words hold before does not matter; afterwards they hold nothing of use.
- * Refuses 1 to 14; 1 to 11 leave the words as they were. Success is 0, the number of labels, the arrival: the sheet then
- * holds the plan in its first 20 + 12 * moves bytes, and the bytes after them stay. */
+/* Planning. Reads the map and the order; writes the plan to the sheet, and uses `words` as label space,
+ * TRUNK_LABEL_WORDS a label, at most 1,000,000 labels. What the words hold before does not matter; afterwards they hold
+ * nothing of use. Refuses 1 to 14; 1 to 11 leave the words as they were. Success is 0, the number of labels, the arrival:
+ * the sheet then holds the plan in its first 20 + 12 * moves bytes, and the bytes after them stay. */
 void trunk_plan(const uint8_t *map, size_t map_length,
                 const uint8_t *order, size_t order_length,
                 uint32_t *words, size_t word_count,
@@ -141,16 +154,25 @@ void trunk_name(const uint8_t *map, size_t map_length,
 void trunk_make_chains(uint8_t *map, size_t map_length,
                        uint64_t *reply, size_t reply_count);
 
-/* Replaying: hours from the tachograph. Reads a trace and the rules, and brings the driver's two figures up to date by
- * each record. Driving adds its seconds to spell and shift. Neighbouring pauses are one pause: at least as long as the
- * break it clears spell, at least as long as the rest both. Other work clears nothing and ends a pause, and so does the
- * trace's end: the pauses of two traces are not joined. `rules` takes TRUNK_RULE_WORDS and `figures` TRUNK_FIGURE_WORDS;
- * with less room than that the call does nothing, as with a short reply, and words behind them are not read and stay.
- * Refuses 10 and 11 as the order check does, at place 6 to 9 and 4 or 5; 21; 22 and 23 record by record. A refused trace
- * leaves the figures as at the start. Success is 0, the number of records, 0; an empty trace is one.
+/* Replaying: hours from the tachograph. Reads a trace and the rules, and brings the driver's figures up to date by each
+ * record: spell, shift, and the mark, which is not judged. Driving adds its seconds to spell and shift. Neighbouring
+ * pauses are one pause, judged whole, with the mark from before it: at least as long as the break it clears spell and the
+ * mark, at least as long as the rest shift too. A shorter one counts only where the rules have a split, both parts not 0:
+ * with the mark and at least as long as the second part it clears mark and spell, otherwise it sets the mark if it is at
+ * least as long as the first part. Other work clears nothing and ends a pause, and so does the trace's end: the pauses of
+ * two traces are not joined. `rules` takes TRUNK_RULE_WORDS and `figures` TRUNK_FIGURE_WORDS; with less room than that the
+ * call does nothing, as with a short reply, and words behind them are not read and stay. Any number but 0 is a mark;
+ * a success writes 0 or 1 for it. Refuses 10 and 11 as the order check does, at place 6 to 11 and 4 or 5; 21; 22 and 23
+ * record by record. A refused trace leaves every word of the figures as it was. Success is 0, the number of records, 0;
+ * an empty trace is one.
  *
- * Ten words `w` that hold an order have both beside each other, and are brought up to date in place by
- *     trunk_replay(trace, trace_length, w + 6, TRUNK_RULE_WORDS, w + 4, TRUNK_FIGURE_WORDS, reply, 3); */
+ * Twelve words `w` that hold an order have the rules from w + 6 on. The figures need room of their own, since the third
+ * from w + 4 on would be word 6; spell and shift are then copied back:
+ *     uint32_t figures[TRUNK_FIGURE_WORDS] = {w[4], w[5], 0};
+ *     trunk_replay(trace, trace_length, w + 6, TRUNK_RULE_WORDS, figures, TRUNK_FIGURE_WORDS, reply, 3);
+ *     w[4] = figures[0], w[5] = figures[1];
+ * Planning makes no use of a mark that the trace leaves: an order's start carries none. The next trace may begin with
+ * it. */
 void trunk_replay(const uint8_t *trace, size_t trace_length,
                   const uint32_t *rules, size_t rule_count,
                   uint32_t *figures, size_t figure_count,

@@ -3,9 +3,9 @@
 use std::error::Error;
 use std::fs;
 
-use trunk::{Planned, Refusal, Refused};
+use trunk::{Planned, Refusal, Refused, LABEL_WORDS};
 
-/// The most labels that planning uses, of eight words each.
+/// The most labels that planning uses.
 const MOST_LABELS: usize = 1_000_000;
 
 fn main() -> Result<(), Box<dyn Error>> {
@@ -21,7 +21,7 @@ fn main() -> Result<(), Box<dyn Error>> {
 
 /// With no room for a sheet, refusal 14 tells how many bytes the plan needs.
 fn plan(map: &[u8], order: &[u8]) -> Result<(Planned, Vec<u8>), Refused> {
-    let mut words = vec![0; 8 * MOST_LABELS];
+    let mut words = vec![0; LABEL_WORDS * MOST_LABELS];
     let mut sheet = Vec::new();
     loop {
         match trunk::plan(map, order, &mut words, &mut sheet) {

@@ -5,9 +5,13 @@ use map_t::{bytes_of, map_t, print_moves};
 
 fn main() -> Result<(), trunk::Refused> {
     let map = map_t();
-    // source, target, departure, latest, spell, shift, and the European limits and pauses
-    let order = bytes_of(&[1, 3, 0, 100_000, 0, 0, 16_200, 2_700, 32_400, 39_600]);
-    let mut words = vec![0; 8 * 100]; // room for 100 labels
+    let order = bytes_of(&[
+        1, 3, 0, 100_000, // source, target, departure, latest arrival
+        0, 0, // spell and shift so far
+        16_200, 2_700, 32_400, 39_600, // the European limits and pauses
+        0, 0, // no split break
+    ]);
+    let mut words = vec![0; trunk::LABEL_WORDS * 100]; // room for 100 labels
     let mut sheet = vec![0; 1000];
     let planned = trunk::plan(&map, &order, &mut words, &mut sheet)?;
     println!("reply 0 {} {}", planned.labels, planned.arrival);

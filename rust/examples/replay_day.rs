@@ -3,7 +3,7 @@
 mod map_t;
 
 use map_t::{bytes_of, map_t, print_moves};
-use trunk::{Figures, Refused, Rules, DRIVING, OTHER_WORK, PAUSE};
+use trunk::{Figures, Refused, Rules, DRIVING, LABEL_WORDS, OTHER_WORK, PAUSE};
 
 /// What the tachograph has: activity and seconds.
 const DAY: [(u32, u32); 7] = [
@@ -13,7 +13,7 @@ const DAY: [(u32, u32); 7] = [
     (PAUSE, 1_500),
     (DRIVING, 4_500),
     (OTHER_WORK, 900),
-    (PAUSE, 900), // too short for a break
+    (PAUSE, 900), // too short for a break, but the first part of one
 ];
 
 fn main() -> Result<(), Refused> {
@@ -29,21 +29,28 @@ fn main() -> Result<(), Refused> {
 
 /// From Hub to End, with these hours behind the driver.
 fn plan(rules: Rules, figures: Figures) -> Result<(), Refused> {
-    println!("spell {} shift {}", figures.spell, figures.shift);
+    let Figures {
+        spell,
+        shift,
+        marked,
+    } = figures;
+    println!("spell {spell} shift {shift} mark {}", u32::from(marked));
     let map = map_t();
     let order = bytes_of(&[
         1,       // source
         3,       // target
         0,       // departure
         100_000, // latest arrival
-        figures.spell,
-        figures.shift,
+        spell,
+        shift,
         rules.spell_limit,
         rules.break_time,
         rules.shift_limit,
         rules.rest_time,
+        rules.first_part,
+        rules.second_part,
     ]);
-    let mut words = vec![0; 8 * 100]; // room for 100 labels
+    let mut words = vec![0; LABEL_WORDS * 100]; // room for 100 labels
     let mut sheet = vec![0; 1000];
     let planned = trunk::plan(&map, &order, &mut words, &mut sheet)?;
     println!("reply 0 {} {}", planned.labels, planned.arrival);

@@ -1,7 +1,7 @@
 //! Safe Rust over the trunk lorry planner, a library that is proved in Rattle: from a road map with car parks, a
 //! driver's hours and a trip to the legal route, with breaks and rests, that arrives first.
 //!
-//! Maps, orders and sheets are bytes in the formats of document 01, and traces in that of document 02 (P3);
+//! Maps, orders and sheets are bytes in the formats of documents 01 and 02 (P5), and traces in that of document 02 (P3);
 //! `include/trunk.h` lists the refusals and what each call reads and writes. Every call ends, allocates nothing, and
 //! answers bad input by a refusal that changes no byte.
 //!
@@ -22,10 +22,25 @@ pub const MOST_ROADS: usize = 40_960;
 pub const MOST_NAME_BYTES: usize = 1_048_576;
 /// The length of the largest map.
 pub const MOST_MAP_BYTES: usize = 16 + 16 * MOST_JUNCTIONS + 20 * MOST_ROADS + MOST_NAME_BYTES;
+/// The length of an order: twelve words.
+pub const ORDER_BYTES: usize = 48;
+/// The words of a label in the label space of [`plan`].
+pub const LABEL_WORDS: usize = 9;
 /// The stack to leave for [`plan`].
 pub const PLAN_STACK_BYTES: usize = 256 * 1024;
 /// The stack to leave for every other call.
 pub const STACK_BYTES: usize = 64 * 1024;
+/// A sheet's kind of move: a drive, by the road of the record's number. The other kinds are pauses, at the junction of
+/// the record's number.
+pub const DRIVE: u32 = 1;
+/// A sheet's kind of move: a break.
+pub const BREAK: u32 = 2;
+/// A sheet's kind of move: a rest.
+pub const REST: u32 = 3;
+/// A sheet's kind of move: the first part of a split break.
+pub const FIRST_PART: u32 = 4;
+/// A sheet's kind of move: the second part of a split break.
+pub const SECOND_PART: u32 = 5;
 /// The bytes of a trace's record: two words, the activity and its seconds.
 pub const TRACE_RECORD_BYTES: usize = 8;
 /// The most seconds of a trace's record.
@@ -136,9 +151,9 @@ pub enum Refusal {
     BrokenChain,
     /// A name byte outside 0x20 to 0x7E. Place: its offset in the map, the lowest.
     BadLettering,
-    /// The order is not 40 bytes. Place: its length.
+    /// The order is not [`ORDER_BYTES`]. Place: its length.
     BadOrder,
-    /// Words 6 to 9 of the order, which are also the [`Rules`] of a replay. Place: the first such word.
+    /// Words 6 to 11 of the order, which are also the [`Rules`] of a replay. Place: the first such word.
     BadRules,
     /// Words 0 to 5 of the order, of which 4 and 5 are also the [`Figures`] of a replay. Place: the first such word.
     BadTrip,
@@ -242,7 +257,7 @@ pub struct Timed {
     pub arrival: u64,
 }
 
-/// How long a driver may be at the wheel, and how long the pauses are that allow more: words 6 to 9 of an order, in
+/// How long a driver may be at the wheel, and how long the pauses are that allow more: words 6 to 11 of an order, in
 /// seconds.
 #[derive(Clone, Copy, Debug, PartialEq, Eq, Hash)]
 pub struct Rules {
@@ -254,27 +269,37 @@ pub struct Rules {
     pub shift_limit: u32,
     /// How long a rest is.
     pub rest_time: u32,
+    /// How long the first part of a split break is; both parts are 0 where a break cannot be split.
+    pub first_part: u32,
+    /// How long the second part is.
+    pub second_part: u32,
 }
 
 impl Rules {
-    /// The European rules: Regulation (EC) 561/2006.
+    /// The European rules: Regulation (EC) 561/2006, which lets 15 minutes followed by 30 stand for a break.
     pub const fn european() -> Rules {
         Rules {
             spell_limit: 16_200,
             break_time: 2_700,
             shift_limit: 32_400,
             rest_time: 39_600,
+            first_part: 900,
+            second_part: 1_800,
         }
     }
 }
 
-/// A driver's two figures: words 4 and 5 of an order, in seconds. The default is a driver who comes from a rest.
+/// A driver's figures: words 4 and 5 of an order, in seconds, and the mark. The default is a driver who comes from a
+/// rest.
 #[derive(Clone, Copy, Debug, Default, PartialEq, Eq, Hash)]
 pub struct Figures {
-    /// Wheel time since the last pause of any kind.
+    /// Wheel time since the last break, second part or rest.
     pub spell: u32,
     /// Wheel time since the last rest.
     pub shift: u32,
+    /// Whether the first part of a split break is behind the driver, and no pause since that clears it. An order's start
+    /// carries no mark.
+    pub marked: bool,
 }
 
 /// A trace was replayed.
@@ -337,8 +362,9 @@ pub fn check_order(order: &[u8], junctions: u32) -> Result<(), Refused> {
 
 /// Planning: writes the first-arriving legal plan to the sheet. Refusals 1 to 14.
 ///
-/// `words` is label space, eight words a label, of which at most 1,000,000 labels are used; what it holds does not matter
-/// before and is of no use afterwards. A plan of M moves takes 20 + 12M bytes of the sheet; the bytes after them stay.
+/// `words` is label space, [`LABEL_WORDS`] a label, of which at most 1,000,000 labels are used; what it holds does not
+/// matter before and is of no use afterwards. A plan of M moves takes 20 + 12M bytes of the sheet; the bytes after them
+/// stay.
 pub fn plan(
     map: &[u8],
     order: &[u8],
@@ -442,17 +468,21 @@ pub fn make_chains(map: &mut [u8]) -> Result<(), Refused> {
 /// by record; a refusal leaves the figures.
 ///
 /// A record is two little-endian words: [`OTHER_WORK`], [`DRIVING`] or [`PAUSE`], and its seconds, 1 to
-/// [`MOST_TRACE_SECONDS`]. Driving adds to both figures. Neighbouring pauses are one pause; at least as long as the break
-/// it clears spell, at least as long as the rest both. Other work clears nothing and ends a pause, and so does the
-/// trace's end: the pauses of two traces are not joined.
+/// [`MOST_TRACE_SECONDS`]. Driving adds to spell and shift. Neighbouring pauses are one pause, judged whole, with the mark
+/// from before it. At least as long as the break it clears spell and the mark, at least as long as the rest shift too. A
+/// shorter one counts where the rules have a split: with the mark and at least as long as the second part it clears mark
+/// and spell, otherwise it sets the mark if it is at least as long as the first part. Other work clears nothing and ends a
+/// pause, and so does the trace's end: the pauses of two traces are not joined.
 pub fn replay(trace: &[u8], rules: Rules, figures: &mut Figures) -> Result<Replayed, Refused> {
     let words = [
         rules.spell_limit,
         rules.break_time,
         rules.shift_limit,
         rules.rest_time,
+        rules.first_part,
+        rules.second_part,
     ];
-    let mut lent = [figures.spell, figures.shift];
+    let mut lent = [figures.spell, figures.shift, figures.marked.into()];
     let answer = replied(|reply, count| unsafe {
         raw::trunk_replay(
             trace.as_ptr(),
@@ -465,7 +495,12 @@ pub fn replay(trace: &[u8], rules: Rules, figures: &mut Figures) -> Result<Repla
             count,
         )
     });
-    [figures.spell, figures.shift] = lent;
+    let [spell, shift, mark] = lent;
+    *figures = Figures {
+        spell,
+        shift,
+        marked: mark != 0,
+    };
     Ok(Replayed {
         records: answer?.place,
     })

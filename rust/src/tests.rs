@@ -20,14 +20,26 @@ fn map_t() -> Vec<u8> {
     map
 }
 
-/// The European order from 1 to 3.
+/// The European order from 1 to 3, without a split.
 fn order_t(latest: u32) -> Vec<u8> {
-    bytes_of(&[1, 3, 0, latest, 0, 0, 16200, 2700, 32400, 39600])
+    order_with_parts(latest, [0, 0])
+}
+
+fn order_with_parts(latest: u32, [first, second]: [u32; 2]) -> Vec<u8> {
+    bytes_of(&[
+        1, 3, 0, latest, 0, 0, 16200, 2700, 32400, 39600, first, second,
+    ])
 }
 
 fn planned_sheet() -> Vec<u8> {
     let mut sheet = vec![0; 56];
-    plan(&map_t(), &order_t(100_000), &mut [7; 8 * 4], &mut sheet).unwrap();
+    plan(
+        &map_t(),
+        &order_t(100_000),
+        &mut [7; LABEL_WORDS * 4],
+        &mut sheet,
+    )
+    .unwrap();
     sheet
 }
 
@@ -38,7 +50,12 @@ fn refused<T>(refusal: Refusal, place: u64) -> Result<T, Refused> {
 #[test]
 fn plans_map_t() {
     let mut sheet = vec![0xEE; 60];
-    let planned = plan(&map_t(), &order_t(100_000), &mut [7; 8 * 4], &mut sheet);
+    let planned = plan(
+        &map_t(),
+        &order_t(100_000),
+        &mut [7; LABEL_WORDS * 4],
+        &mut sheet,
+    );
     assert_eq!(
         planned,
         Ok(Planned {
@@ -53,9 +70,65 @@ fn plans_map_t() {
     assert_eq!(sheet, written);
 }
 
+/// Two labels with the mark more; the plan is the same.
+#[test]
+fn plans_map_t_with_europes_parts() {
+    let order = order_with_parts(100_000, [900, 1_800]);
+    let mut sheet = vec![0; 56];
+    let planned = plan(&map_t(), &order, &mut [7; LABEL_WORDS * 6], &mut sheet);
+    assert_eq!(
+        planned,
+        Ok(Planned {
+            labels: 6,
+            arrival: 20_700
+        })
+    );
+    let mut expected = planned_sheet();
+    expected[16] = 6;
+    assert_eq!(sheet, expected);
+    let full = plan(&map_t(), &order, &mut [7; LABEL_WORDS * 6 - 1], &mut sheet);
+    assert_eq!(full, refused(Refusal::Full, 5));
+}
+
+/// A second less than the break: a first and a second part at Lay.
+#[test]
+fn plans_a_split_break() {
+    let order = order_with_parts(100_000, [900, 1_799]);
+    let mut sheet = vec![0; 68];
+    let planned = plan(&map_t(), &order, &mut [7; LABEL_WORDS * 6], &mut sheet);
+    assert_eq!(
+        planned,
+        Ok(Planned {
+            labels: 6,
+            arrival: 20_699
+        })
+    );
+    let records = [
+        [DRIVE, 1, 10_800],
+        [FIRST_PART, 2, 11_700],
+        [SECOND_PART, 2, 13_499],
+        [DRIVE, 2, 20_699],
+    ];
+    let mut written = bytes_of(&[4, 20_699, 7_200, 18_000, 6]);
+    written.extend(bytes_of(&records.concat()));
+    assert_eq!(sheet, written);
+    let timed = Ok(Timed {
+        moves: 4,
+        arrival: 20_699,
+    });
+    assert_eq!(audit(&map_t(), &order, &sheet), timed);
+    let without_split = audit(&map_t(), &order_t(100_000), &sheet);
+    assert_eq!(without_split, refused(Refusal::ForeignMove, 2));
+}
+
 #[test]
 fn latest_arrival_decides() {
-    let planned = plan(&map_t(), &order_t(20_700), &mut [0; 8 * 4], &mut [0; 56]);
+    let planned = plan(
+        &map_t(),
+        &order_t(20_700),
+        &mut [0; LABEL_WORDS * 4],
+        &mut [0; 56],
+    );
     assert_eq!(
         planned,
         Ok(Planned {
@@ -63,7 +136,12 @@ fn latest_arrival_decides() {
             arrival: 20_700
         })
     );
-    let late = plan(&map_t(), &order_t(20_699), &mut [0; 8 * 4], &mut [0; 56]);
+    let late = plan(
+        &map_t(),
+        &order_t(20_699),
+        &mut [0; LABEL_WORDS * 4],
+        &mut [0; 56],
+    );
     assert_eq!(late, refused(Refusal::NoRoad, 3));
 }
 
@@ -72,7 +150,7 @@ fn three_labels_are_full() {
     let full = plan(
         &map_t(),
         &order_t(100_000),
-        &mut [0; 8 * 4 - 1],
+        &mut [0; LABEL_WORDS * 4 - 1],
         &mut [0; 56],
     );
     assert_eq!(full, refused(Refusal::Full, 3));
@@ -89,17 +167,22 @@ fn no_label_space_and_no_sheet() {
 #[test]
 fn a_short_sheet_stays() {
     let mut sheet = [0xEE; 55];
-    let short = plan(&map_t(), &order_t(100_000), &mut [0; 8 * 4], &mut sheet);
+    let short = plan(
+        &map_t(),
+        &order_t(100_000),
+        &mut [0; LABEL_WORDS * 4],
+        &mut sheet,
+    );
     assert_eq!(short, refused(Refusal::ShortSheet, 56));
     assert_eq!(sheet, [0xEE; 55]);
 }
 
 #[test]
 fn a_refusal_before_the_search_leaves_the_label_space() {
-    let mut words = [7; 8 * 4];
-    let bad = plan(&map_t(), &order_t(100_000)[..39], &mut words, &mut [0; 56]);
-    assert_eq!(bad, refused(Refusal::BadOrder, 39));
-    assert_eq!(words, [7; 8 * 4]);
+    let mut words = [7; LABEL_WORDS * 4];
+    let bad = plan(&map_t(), &order_t(100_000)[..47], &mut words, &mut [0; 56]);
+    assert_eq!(bad, refused(Refusal::BadOrder, 47));
+    assert_eq!(words, [7; LABEL_WORDS * 4]);
 }
 
 #[test]
@@ -167,11 +250,26 @@ fn checks_orders_without_a_map() {
     assert_eq!(check_order(&order, 3), Ok(()));
     assert_eq!(check_order(&order, u32::MAX), Ok(()));
     assert_eq!(check_order(&[], 3), refused(Refusal::BadOrder, 0));
-    assert_eq!(check_order(&order[..39], 3), refused(Refusal::BadOrder, 39));
+    assert_eq!(check_order(&order[..40], 3), refused(Refusal::BadOrder, 40));
+    assert_eq!(check_order(&order[..47], 3), refused(Refusal::BadOrder, 47));
     assert_eq!(check_order(&order, 2), refused(Refusal::BadTrip, 1));
     assert_eq!(check_order(&order, 0), refused(Refusal::BadTrip, 0));
-    let bad_rules = bytes_of(&[0, 3, 0, 100_000, 0, 0, 16200, 2700, 32400, 0]);
+    let bad_rules = bytes_of(&[0, 3, 0, 100_000, 0, 0, 16200, 2700, 32400, 0, 0, 0]);
     assert_eq!(check_order(&bad_rules, 3), refused(Refusal::BadRules, 9));
+    for (parts, place) in [
+        ([0, 1], 10),
+        ([1, 0], 11),
+        ([2_701, 1], 10),
+        ([1, 2_701], 11),
+    ] {
+        let order = order_with_parts(100_000, parts);
+        assert_eq!(check_order(&order, 3), refused(Refusal::BadRules, place));
+    }
+    let european = order_with_parts(100_000, [900, 1_800]);
+    assert_eq!(
+        (european.len(), check_order(&european, 3)),
+        (ORDER_BYTES, Ok(()))
+    );
 }
 
 /// A map that is sound but for its counts, with as many name bytes as there may be and no fewer roads than junctions.
@@ -204,7 +302,7 @@ fn ring_map(junctions: u32, roads: u32) -> Vec<u8> {
 
 /// The European order from 2 to 1.
 fn ring_order() -> Vec<u8> {
-    bytes_of(&[2, 1, 0, 100_000, 0, 0, 16200, 2700, 32400, 39600])
+    bytes_of(&[2, 1, 0, 100_000, 0, 0, 16200, 2700, 32400, 39600, 0, 0])
 }
 
 /// Each junction of the largest map is a label, and the plan takes the ring's roads in turn; the last is the map's last.
@@ -219,7 +317,7 @@ fn the_largest_map_passes_and_plans() {
     assert_eq!(name(&map, 12_288), Ok(&b"n"[..]));
     let (order, mut sheet) = (ring_order(), vec![0; 20 + 12 * 12_287]);
     assert_eq!(
-        plan(&map, &order, &mut vec![7; 8 * 12_288], &mut sheet),
+        plan(&map, &order, &mut vec![7; LABEL_WORDS * 12_288], &mut sheet),
         Ok(Planned {
             labels: 12_288,
             arrival: 12_287
@@ -243,12 +341,12 @@ fn the_largest_map_passes_and_plans() {
 fn one_junction_or_road_too_many_is_oversize() {
     for (junctions, roads, place) in [(12_289, 40_960, 4), (12_288, 40_961, 8)] {
         let mut map = ring_map(junctions, roads);
-        let (mut words, mut sheet) = ([7; 8], [0xEE; 20]);
+        let (mut words, mut sheet) = ([7; LABEL_WORDS], [0xEE; 20]);
         assert_eq!(
             plan(&map, &ring_order(), &mut words, &mut sheet),
             refused(Refusal::Oversize, place)
         );
-        assert_eq!((words, sheet), ([7; 8], [0xEE; 20]));
+        assert_eq!((words, sheet), ([7; LABEL_WORDS], [0xEE; 20]));
         assert_eq!(check_map(&map), refused(Refusal::Oversize, place));
         let before = map.clone();
         assert_eq!(make_chains(&mut map), refused(Refusal::Oversize, place));
@@ -263,6 +361,13 @@ fn the_header_has_the_same_figures() {
         ("MOST_JUNCTIONS", MOST_JUNCTIONS),
         ("MOST_ROADS", MOST_ROADS),
         ("MOST_NAME_BYTES", MOST_NAME_BYTES),
+        ("ORDER_BYTES", ORDER_BYTES),
+        ("LABEL_WORDS", LABEL_WORDS),
+        ("DRIVE", DRIVE as usize),
+        ("BREAK", BREAK as usize),
+        ("REST", REST as usize),
+        ("FIRST_PART", FIRST_PART as usize),
+        ("SECOND_PART", SECOND_PART as usize),
         ("PLAN_STACK_BYTES", PLAN_STACK_BYTES),
         ("STACK_BYTES", STACK_BYTES),
         ("TRACE_RECORD_BYTES", TRACE_RECORD_BYTES),
@@ -294,7 +399,7 @@ fn numbers_are_the_documents() {
 #[test]
 fn a_short_reply_changes_nothing() {
     let (map, order) = (map_t(), order_t(100_000));
-    let (mut words, mut sheet, mut reply) = ([7; 8 * 4], [0xEE; 56], [9; 2]);
+    let (mut words, mut sheet, mut reply) = ([7; LABEL_WORDS * 4], [0xEE; 56], [9; 2]);
     unsafe {
         raw::trunk_plan(
             map.as_ptr(),
@@ -309,7 +414,10 @@ fn a_short_reply_changes_nothing() {
             reply.len(),
         )
     };
-    assert_eq!((words, sheet, reply), ([7; 8 * 4], [0xEE; 56], [9; 2]));
+    assert_eq!(
+        (words, sheet, reply),
+        ([7; LABEL_WORDS * 4], [0xEE; 56], [9; 2])
+    );
 }
 
 /// The order check too: nothing where the reply is short, three numbers where it is longer.
@@ -368,10 +476,15 @@ fn a_name_needs_room_for_its_place() {
 }
 
 /// Both figures at their European limits.
-const TIRED: Figures = Figures {
-    spell: 16_200,
-    shift: 32_400,
-};
+const TIRED: Figures = figures(16_200, 32_400, false);
+
+const fn figures(spell: u32, shift: u32, marked: bool) -> Figures {
+    Figures {
+        spell,
+        shift,
+        marked,
+    }
+}
 
 fn trace_of(records: &[(u32, u32)]) -> Vec<u8> {
     let words = |&(activity, seconds): &(u32, u32)| [activity, seconds];
@@ -394,7 +507,7 @@ fn a_day_is_replayed() {
         (PAUSE, 1_200),
         (DRIVING, 9_000),
     ];
-    let after = |spell, shift| Figures { spell, shift };
+    let after = |spell, shift| figures(spell, shift, false);
     let fresh = Figures::default();
     let european = |day: &[(u32, u32)]| replayed(&trace_of(day), Rules::european(), fresh);
     assert_eq!(european(&day), (Ok(5), after(9_000, 25_200)));
@@ -412,7 +525,43 @@ fn a_day_is_replayed() {
 #[test]
 fn other_work_ends_a_pause() {
     let apart = trace_of(&[(PAUSE, 2_699), (OTHER_WORK, 1), (PAUSE, 2_699)]);
-    assert_eq!(replayed(&apart, Rules::european(), TIRED), (Ok(3), TIRED));
+    let no_split = Rules {
+        first_part: 0,
+        second_part: 0,
+        ..Rules::european()
+    };
+    assert_eq!(replayed(&apart, no_split, TIRED), (Ok(3), TIRED));
+    let broken = figures(0, 32_400, false);
+    assert_eq!(replayed(&apart, Rules::european(), TIRED), (Ok(3), broken));
+}
+
+#[test]
+fn a_pause_is_judged_whole_with_the_mark_before_it() {
+    let european = |records: &[(u32, u32)], marked| {
+        let (answer, after) = replayed(
+            &trace_of(records),
+            Rules::european(),
+            figures(15, 20, marked),
+        );
+        assert_eq!(answer, Ok(records.len() as u64));
+        after
+    };
+    let (unmarked, marked, broken) = (
+        figures(15, 20, false),
+        figures(15, 20, true),
+        figures(0, 20, false),
+    );
+    assert_eq!(european(&[(PAUSE, 899)], false), unmarked);
+    assert_eq!(european(&[(PAUSE, 900)], false), marked);
+    assert_eq!(european(&[(PAUSE, 900), (PAUSE, 900)], false), marked);
+    assert_eq!(
+        european(&[(PAUSE, 900), (OTHER_WORK, 1), (PAUSE, 1_800)], false),
+        broken
+    );
+    assert_eq!(european(&[(PAUSE, 1_799)], true), marked);
+    assert_eq!(european(&[(PAUSE, 1_000), (PAUSE, 800)], true), broken);
+    assert_eq!(european(&[(PAUSE, 2_700)], true), broken);
+    assert_eq!(european(&[(DRIVING, 5)], true), figures(20, 25, true));
 }
 
 /// 4,294,967,296 seconds of pause, which 32 bits would take for none.
@@ -437,10 +586,13 @@ fn a_refused_trace_leaves_the_figures() {
         (rest_then((PAUSE, 1))[..15].to_vec(), Refusal::TornTrace, 15),
     ];
     for (trace, refusal, place) in cases {
-        assert_eq!(
-            replayed(&trace, Rules::european(), TIRED),
-            (refused(refusal, place), TIRED)
-        );
+        for marked in [false, true] {
+            let before = Figures { marked, ..TIRED };
+            assert_eq!(
+                replayed(&trace, Rules::european(), before),
+                (refused(refusal, place), before)
+            );
+        }
     }
 }
 
@@ -451,7 +603,7 @@ fn rules_and_figures_come_first() {
         rest_time: 0,
         ..Rules::european()
     };
-    let spell_above_shift = Figures { spell: 2, shift: 1 };
+    let spell_above_shift = figures(2, 1, true);
     assert_eq!(
         replayed(&[0], no_rest, spell_above_shift),
         (refused(Refusal::BadRules, 9), spell_above_shift)
@@ -460,63 +612,67 @@ fn rules_and_figures_come_first() {
         replayed(&[0], Rules::european(), spell_above_shift),
         (refused(Refusal::BadTrip, 5), spell_above_shift)
     );
-    let above_its_limit = Figures {
-        spell: 16_201,
-        shift: 16_201,
+    let above_its_limit = figures(16_201, 16_201, true);
+    let lone_zero = Rules {
+        first_part: 0,
+        ..Rules::european()
     };
+    assert_eq!(
+        replayed(&[0], lone_zero, spell_above_shift),
+        (refused(Refusal::BadRules, 10), spell_above_shift)
+    );
     assert_eq!(
         replayed(&[0], Rules::european(), above_its_limit),
         (refused(Refusal::BadTrip, 4), above_its_limit)
     );
 }
 
-/// An order's words are replayed on in place; with too little room for any of them nothing is written.
-#[test]
-fn an_order_is_brought_up_to_date_in_place() {
-    let trace = trace_of(&[(DRIVING, 9)]);
-    let before = [1, 3, 0, 100_000, 5, 7, 16_200, 2_700, 32_400, 39_600];
-    let replayed = |rule_count: usize, figure_count: usize, reply_count: usize| {
-        let (mut order, mut reply) = (before, [9; 4]);
-        let (trip, rules) = order.split_at_mut(6);
-        unsafe {
-            raw::trunk_replay(
-                trace.as_ptr(),
-                trace.len(),
-                rules.as_ptr(),
-                rule_count,
-                trip[4..].as_mut_ptr(),
-                figure_count,
-                reply.as_mut_ptr(),
-                reply_count,
-            )
-        };
-        (order, reply)
-    };
-    let after = [1, 3, 0, 100_000, 14, 16, 16_200, 2_700, 32_400, 39_600];
-    assert_eq!(replayed(4, 2, 3), (after, [0, 1, 0, 9]));
-    assert_eq!(replayed(4, 2, 4), (after, [0, 1, 0, 9]));
-    for (rules, figures, reply) in [(3, 2, 3), (4, 1, 3), (4, 2, 2), (0, 0, 0)] {
-        assert_eq!(replayed(rules, figures, reply), (before, [9; 4]));
-    }
-}
-
-/// Words behind the rules and the figures are not read and stay.
-#[test]
-fn longer_rules_and_figures_keep_their_rest() {
-    let trace = trace_of(&[(DRIVING, 9)]);
-    let rules = [16_200, 2_700, 32_400, 39_600, 0];
-    let (mut figures, mut reply) = ([5, 7, u32::MAX], [9; 3]);
+/// Calls the library with so many of these rule words, figure words and numbers for the reply.
+fn replayed_raw(trace: &[u8], counts: [usize; 3], before: [u32; 4]) -> ([u32; 4], [u64; 4]) {
+    let rules = [16_200, 2_700, 32_400, 39_600, 900, 1_800, u32::MAX];
+    let (mut figures, mut reply) = (before, [9; 4]);
+    let [rule_count, figure_count, reply_count] = counts;
     unsafe {
         raw::trunk_replay(
             trace.as_ptr(),
             trace.len(),
             rules.as_ptr(),
-            rules.len(),
+            rule_count,
             figures.as_mut_ptr(),
-            figures.len(),
+            figure_count,
             reply.as_mut_ptr(),
-            reply.len(),
+            reply_count,
         )
     };
-    assert_eq!((figures, reply), ([14, 16, u32::MAX], [0, 1, 0]));
+    (figures, reply)
+}
+
+/// With too little room for rules, figures or reply nothing is written; words behind them are not read and stay.
+#[test]
+fn a_replay_needs_room_for_rules_and_figures() {
+    let trace = trace_of(&[(DRIVING, 9)]);
+    let before = [5, 7, 1, u32::MAX];
+    let done = ([14, 16, 1, u32::MAX], [0, 1, 0, 9]);
+    for counts in [[6, 3, 3], [6, 3, 4], [7, 3, 3], [6, 4, 3], [7, 4, 4]] {
+        assert_eq!(replayed_raw(&trace, counts, before), done);
+    }
+    for counts in [[5, 3, 3], [6, 2, 3], [6, 3, 2], [4, 2, 3], [0, 0, 0]] {
+        assert_eq!(replayed_raw(&trace, counts, before), (before, [9; 4]));
+    }
+}
+
+/// Any number but 0 is a mark. A success tells it as 1, a refusal leaves the number.
+#[test]
+fn a_mark_is_any_number_but_0() {
+    let first_part = trace_of(&[(PAUSE, 900)]);
+    let second_part = trace_of(&[(PAUSE, 1_800)]);
+    let past_limit = trace_of(&[(DRIVING, 16_201)]);
+    for mark in [1, 2, 256, u32::MAX] {
+        let before = [5, 7, mark, 8];
+        let after = |trace: &[u8]| replayed_raw(trace, [6, 3, 3], before).0;
+        assert_eq!(after(&[]), [5, 7, 1, 8]);
+        assert_eq!(after(&first_part), [5, 7, 1, 8]);
+        assert_eq!(after(&second_part), [0, 7, 0, 8]);
+        assert_eq!(after(&past_limit), before);
+    }
 }

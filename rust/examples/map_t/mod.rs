@@ -35,9 +35,9 @@ pub fn print_moves(map: &[u8], sheet: &[u8]) -> Result<(), trunk::Refused> {
 /// A record's word, number, the name of the junction reached, and clock.
 fn print_move(map: &[u8], record: &[u8]) -> Result<(), trunk::Refused> {
     let (kind, number, clock) = (word_at(record, 0), word_at(record, 4), word_at(record, 8));
-    let word = ["drive", "break", "rest"][kind as usize - 1];
+    let word = ["drive", "break", "rest", "first", "second"][kind as usize - 1];
     let reached = match kind {
-        1 => word_at(map, 16 + 16 * JUNCTIONS + 20 * (number as usize - 1) + 4),
+        trunk::DRIVE => word_at(map, 16 + 16 * JUNCTIONS + 20 * (number as usize - 1) + 4),
         _ => number,
     };
     let name = String::from_utf8_lossy(trunk::name(map, reached)?);
