@@ -1,7 +1,7 @@
 //! Long journeys, whose sheets are retimed and audited.
 
 use other::make::random::Random;
-use other::moves::Trip;
+use other::moves::{Document, Trip};
 use other::order::{Order, LATEST_CLOCK, LONGEST_RULE};
 use other::sheet::{Record, Sheet};
 
@@ -25,7 +25,7 @@ pub fn wander(map: &NamedMap, moves: u64) -> Journey {
     let mut state = trip.start();
     let mut records = Vec::new();
     for _ in 0..moves {
-        let (step, after) = random.pick(&trip.legal_moves(&state));
+        let (step, after) = random.pick(&trip.legal_moves::<Document>(&state));
         state = after;
         records.push(Record {
             step,

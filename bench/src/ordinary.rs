@@ -4,6 +4,7 @@
 use std::cmp::Reverse;
 use std::collections::BinaryHeap;
 
+use other::moves::Mark;
 use other::sheet::Record;
 
 use crate::answer::Answer;
@@ -61,9 +62,9 @@ struct Label {
 pub struct Ordinary {
     waiting: BinaryHeap<Reverse<Label>>,
     settled: Vec<Label>,
-    /// Spell and shift of the labels at each junction. Their clocks are never later than the clock
-    /// of a tentative label, since labels are settled in rank order.
-    settled_at: Vec<Vec<(u32, u32)>>,
+    /// Spell, shift and mark of the labels at each junction. Their clocks are never later than the
+    /// clock of a tentative label, since labels are settled in rank order.
+    settled_at: Vec<Vec<(u32, u32, Mark)>>,
 }
 
 impl Ordinary {
@@ -98,12 +99,14 @@ impl Ordinary {
     fn is_covered(&self, state: &State) -> bool {
         self.settled_at[state.junction as usize]
             .iter()
-            .any(|&(spell, shift)| spell <= state.spell && shift <= state.shift)
+            .any(|&(spell, shift, mark)| {
+                spell <= state.spell && shift <= state.shift && mark <= state.mark
+            })
     }
 
     fn settle(&mut self, label: Label) {
         let state = &label.state;
-        self.settled_at[state.junction as usize].push((state.spell, state.shift));
+        self.settled_at[state.junction as usize].push((state.spell, state.shift, state.mark));
         self.settled.push(label);
     }
 

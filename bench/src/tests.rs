@@ -7,12 +7,12 @@ use other::make::random::Random;
 use other::make::{case, Run};
 use other::map::road_time;
 use other::mapcheck::{check_map, MOST_JUNCTIONS};
-use other::moves::Trip as SmallTrip;
+use other::moves::{Document, Trip as SmallTrip, FIRST, SECOND};
 use other::operations::DOCUMENT;
 use other::order::Order;
 use other::reply::Reply;
 use other::retiming::audit;
-use other::sheet::sheet_bytes;
+use other::sheet::{sheet_bytes, Sheet};
 
 use crate::answer::Answer;
 use crate::journeys::wander;
@@ -22,7 +22,7 @@ use crate::ordinary::{self, Ordinary};
 use crate::strong::heap::Heap;
 use crate::strong::{self, Strong};
 use crate::trip::Trip;
-use crate::trips::{european_order, NamedTrip, Targets};
+use crate::trips::{european_order, european_split_order, NamedTrip, Targets};
 
 const SEED: u64 = 1;
 const CASES: u64 = 600;
@@ -64,7 +64,7 @@ fn road_times_are_the_other_planners() {
 #[test]
 fn both_answer_as_the_other_planner() {
     let mut both = Both::default();
-    let (mut planned, mut without_road, mut most_labels) = (0, 0, 0);
+    let (mut planned, mut split, mut without_road, mut most_labels) = (0, 0, 0, 0);
     for number in 0..CASES {
         for run in case(SEED, number).runs() {
             let Ok(trip) = SmallTrip::open(&run.map, &run.order) else {
@@ -75,14 +75,24 @@ fn both_answer_as_the_other_planner() {
                 assert_eq!(answer, meant, "seed {SEED}, case {number}");
             }
             match meant {
-                Answer::Planned(_) => planned += 1,
+                Answer::Planned(ref sheet) => {
+                    planned += 1;
+                    split += u64::from(has_split(sheet));
+                }
                 Answer::NoRoad(_) => without_road += 1,
             }
             most_labels = most_labels.max(meant.labels());
         }
     }
-    println!("{planned} planned, {without_road} without a road, up to {most_labels} labels");
-    assert!(planned > 300 && without_road > 50 && most_labels > 100);
+    println!(
+        "{planned} planned, {split} with a split break, {without_road} without a road, up to {most_labels} labels"
+    );
+    assert!(planned > 300 && split > 10 && without_road > 50 && most_labels > 100);
+}
+
+fn has_split(sheet: &Sheet) -> bool {
+    let mut kinds = sheet.records.iter().map(|record| record.step.kind);
+    kinds.any(|kind| kind == FIRST || kind == SECOND)
 }
 
 /// Short pauses leave many labels at a junction.
@@ -97,7 +107,13 @@ fn both_agree_on_larger_maps() {
                 rest_time: 700,
                 ..european
             };
-            for order in [european, short_pauses] {
+            let split = european_split_order(target);
+            let short_parts = Order {
+                first_part: 300,
+                second_part: 400,
+                ..split
+            };
+            for order in [european, short_pauses, split, short_parts] {
                 let [one, two] = both.answers(&map.bytes, &order);
                 assert_eq!(one, two, "{}, {order:?}", map.name);
             }
@@ -129,7 +145,7 @@ fn targets_have_the_labels_that_a_search_takes() {
 fn wandering_makes_true_sheets() {
     let map = practice(64);
     let journey = wander(&map, 500);
-    let reply = audit(&map.bytes, &journey.order, &journey.sheet);
+    let reply = audit::<Document>(&map.bytes, &journey.order, &journey.sheet);
     assert_eq!((reply.number, reply.place), (0, journey.moves));
 }
 

@@ -1,7 +1,7 @@
 //! What both planners know of an order: its figures, states, and what moves lead to.
 
 use other::mapcheck::MOST_ROADS;
-use other::moves::{Move, BREAK, DRIVE, REST};
+use other::moves::{Mark, Move, BREAK, DRIVE, FIRST, REST, SECOND};
 use other::order::Order;
 use other::sheet::{Record, Sheet};
 
@@ -11,6 +11,7 @@ pub struct State {
     pub clock: u32,
     pub spell: u32,
     pub shift: u32,
+    pub mark: Mark,
     pub junction: u32,
 }
 
@@ -19,6 +20,8 @@ pub type Step = u32;
 
 pub const BREAK_STEP: Step = MOST_ROADS as Step + 1; // above every road's number
 pub const REST_STEP: Step = BREAK_STEP + 1;
+pub const FIRST_STEP: Step = REST_STEP + 1;
+pub const SECOND_STEP: Step = FIRST_STEP + 1;
 
 /// An accepted order's figures.
 #[derive(Clone, Copy, Debug)]
@@ -30,6 +33,9 @@ pub struct Trip {
     break_time: u32,
     shift_limit: u32,
     rest_time: u32,
+    /// Both 0 where there is no split.
+    first_part: u32,
+    second_part: u32,
 }
 
 impl Trip {
@@ -39,6 +45,7 @@ impl Trip {
                 clock: order.departure as u32,
                 spell: order.spell as u32,
                 shift: order.shift as u32,
+                mark: Mark::Unmarked,
                 junction: order.source as u32,
             },
             target: order.target as u32,
@@ -47,6 +54,8 @@ impl Trip {
             break_time: order.break_time as u32,
             shift_limit: order.shift_limit as u32,
             rest_time: order.rest_time as u32,
+            first_part: order.first_part as u32,
+            second_part: order.second_part as u32,
         }
     }
 
@@ -56,23 +65,35 @@ impl Trip {
             spell: state.spell + time,
             shift: state.shift + time,
             junction: to,
+            ..*state
         }
     }
 
-    /// The two pauses and the states after them.
-    pub fn pauses(&self, state: &State) -> [(Step, State); 2] {
-        let after_break = State {
-            clock: state.clock + self.break_time,
-            spell: 0,
+    /// The pauses that a car park offers and the states after them.
+    pub fn pauses(&self, state: &State) -> impl Iterator<Item = (Step, State)> {
+        let is_split = self.first_part != 0;
+        let is_marked = state.mark == Mark::Marked;
+        let later = |seconds, mark| State {
+            clock: state.clock + seconds,
+            mark,
             ..*state
+        };
+        let broken = |seconds| State {
+            spell: 0,
+            ..later(seconds, Mark::Unmarked)
         };
         let after_rest = State {
-            clock: state.clock + self.rest_time,
-            spell: 0,
             shift: 0,
-            ..*state
+            ..broken(self.rest_time)
         };
-        [(BREAK_STEP, after_break), (REST_STEP, after_rest)]
+        let pauses = [
+            (BREAK_STEP, broken(self.break_time), true),
+            (REST_STEP, after_rest, true),
+            (FIRST_STEP, later(self.first_part, Mark::Marked), is_split),
+            (SECOND_STEP, broken(self.second_part), is_split && is_marked),
+        ];
+        let offered = pauses.into_iter().filter(|(_, _, is_offered)| *is_offered);
+        offered.map(|(step, after, _)| (step, after))
     }
 
     /// Whether a move that leads to this state is legal.
@@ -88,6 +109,8 @@ pub fn record_of(step: Step, after: &State) -> Record {
     let (kind, number) = match step {
         BREAK_STEP => (BREAK, after.junction),
         REST_STEP => (REST, after.junction),
+        FIRST_STEP => (FIRST, after.junction),
+        SECOND_STEP => (SECOND, after.junction),
         road => (DRIVE, road),
     };
     Record {

@@ -1,4 +1,4 @@
-//! The trips that are timed: from junction 1 under the European figures, to targets chosen by N.
+//! The trips that are timed: from junction 1 under the European figures without a split, to targets chosen by N.
 
 use other::order::{Order, EUROPEAN_RULES, LATEST_CLOCK};
 
@@ -11,18 +11,20 @@ pub struct NamedTrip {
 }
 
 pub fn european_order(target: u64) -> Order {
-    let [spell_limit, break_time, shift_limit, rest_time] = EUROPEAN_RULES;
+    Order {
+        first_part: 0,
+        second_part: 0,
+        ..european_split_order(target)
+    }
+}
+
+/// The same with the parts of a split break.
+pub fn european_split_order(target: u64) -> Order {
     Order {
         source: 1,
         target,
-        departure: 0,
         latest: LATEST_CLOCK,
-        spell: 0,
-        shift: 0,
-        spell_limit,
-        break_time,
-        shift_limit,
-        rest_time,
+        ..Order::of_hours(EUROPEAN_RULES, [0, 0])
     }
 }
 

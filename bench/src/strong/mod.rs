@@ -106,11 +106,7 @@ impl Strong {
 }
 
 fn after_step(graph: &Graph, trip: &Trip, state: &State, step: Step) -> State {
-    if let Some((_, after)) = trip
-        .pauses(state)
-        .into_iter()
-        .find(|(pause, _)| *pause == step)
-    {
+    if let Some((_, after)) = trip.pauses(state).find(|(pause, _)| *pause == step) {
         return after;
     }
     let mut roads = graph.roads_of(state.junction).iter();

@@ -1,16 +1,19 @@
 //! Settled labels: 16 bytes each in one run, with those of a junction chained from the last to the
 //! first.
 
+use other::moves::Mark;
 use other::planning::MOST_LABELS;
 
 use crate::trip::{State, Step};
 
 const FIGURE_BITS: u32 = 20; // a spell, a shift and a label's number are at most 1,000,000
 const FIGURE_MASK: u64 = (1 << FIGURE_BITS) - 1;
+const UNMARKED_AT: u32 = 3 * FIGURE_BITS;
 
 #[derive(Clone, Copy)]
 struct Label {
-    /// Spell, shift and the number of the label before it at its junction, 0 for none.
+    /// Whether without the mark, then spell, shift and the number of the label before it at its
+    /// junction, 0 for none.
     figures: u64,
     parent: u32,
     step: Step,
@@ -18,9 +21,11 @@ struct Label {
 
 impl Label {
     fn covers(&self, state: &State) -> bool {
-        let spell = (self.figures >> (2 * FIGURE_BITS)) as u32;
+        let unmarked = self.figures >> UNMARKED_AT == 1;
+        let spell = ((self.figures >> (2 * FIGURE_BITS)) & FIGURE_MASK) as u32;
         let shift = ((self.figures >> FIGURE_BITS) & FIGURE_MASK) as u32;
-        spell <= state.spell && shift <= state.shift
+        let good_mark = !unmarked || state.mark == Mark::Unmarked;
+        spell <= state.spell && shift <= state.shift && good_mark
     }
 
     fn previous(&self) -> u32 {
@@ -81,8 +86,10 @@ impl Settled {
         assert!(self.count() < MOST_LABELS, "more labels than have a number");
         let gathered = &mut self.gathered[state.junction as usize];
         let [spell, shift, previous] = [state.spell, state.shift, gathered.last].map(u64::from);
+        let unmarked = u64::from(state.mark == Mark::Unmarked);
+        let wheel_times = spell << (2 * FIGURE_BITS) | shift << FIGURE_BITS;
         self.labels.push(Label {
-            figures: spell << (2 * FIGURE_BITS) | shift << FIGURE_BITS | previous,
+            figures: unmarked << UNMARKED_AT | wheel_times | previous,
             parent,
             step,
         });

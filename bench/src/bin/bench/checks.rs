@@ -5,8 +5,9 @@ use std::time::Duration;
 use bench::journeys::{wander, Journey};
 use bench::map_bytes::road_count;
 use bench::maps::NamedMap;
+use other::mapcheck;
+use other::operations::DOCUMENT;
 use other::reply::Reply;
-use other::{mapcheck, retiming};
 
 use bench::table::{brief, grouped, ratio_text, Table};
 use bench::timing::{best_of, nanoseconds_each, ratio, take};
@@ -87,7 +88,7 @@ fn sheet_times(runs: usize, map: &[u8], journey: &Journey) -> Result<[[Duration;
     agree(
         "retiming",
         (LIBRARY.retime)(map, order, sheet, &mut out),
-        retiming::retime(map, order, sheet, &mut other_out),
+        (DOCUMENT.retime)(map, order, sheet, &mut other_out),
     )?;
     if out != sheet || other_out != sheet {
         return Err("retiming a true sheet writes another".to_string());
@@ -95,15 +96,15 @@ fn sheet_times(runs: usize, map: &[u8], journey: &Journey) -> Result<[[Duration;
     agree(
         "audit",
         (LIBRARY.audit)(map, order, sheet),
-        retiming::audit(map, order, sheet),
+        (DOCUMENT.audit)(map, order, sheet),
     )?;
     let [library_retime, other_retime, library_audit, other_audit] = best_of(
         runs,
         [
             &mut || take((LIBRARY.retime)(map, order, sheet, &mut out)),
-            &mut || take(retiming::retime(map, order, sheet, &mut other_out)),
+            &mut || take((DOCUMENT.retime)(map, order, sheet, &mut other_out)),
             &mut || take((LIBRARY.audit)(map, order, sheet)),
-            &mut || take(retiming::audit(map, order, sheet)),
+            &mut || take((DOCUMENT.audit)(map, order, sheet)),
         ],
     );
     Ok([[library_retime, other_retime], [library_audit, other_audit]])
