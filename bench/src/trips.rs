@@ -1,4 +1,4 @@
-//! The trips that are timed: from junction 1 under the European figures without a split, to targets chosen by N.
+//! The trips that are timed: from junction 1 under the European figures, to targets chosen by N without a split.
 
 use other::order::{Order, EUROPEAN_RULES, LATEST_CLOCK};
 
@@ -8,6 +8,16 @@ use crate::trip::Trip;
 pub struct NamedTrip {
     pub name: String,
     pub order: Order,
+}
+
+impl NamedTrip {
+    /// The same trip with Europe's parts of a break.
+    pub fn with_split(&self) -> NamedTrip {
+        NamedTrip {
+            name: self.name.clone(),
+            order: european_split_order(self.order.target),
+        }
+    }
 }
 
 pub fn european_order(target: u64) -> Order {

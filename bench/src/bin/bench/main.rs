@@ -8,7 +8,7 @@ use std::process::ExitCode;
 
 use bench::machine::{load, processor};
 use bench::maps::{grid, practice, NamedMap};
-use bench::trips::Targets;
+use bench::trips::{NamedTrip, Targets};
 use checks::{print_map_checks, print_sheet_checks};
 use other::mapcheck::MOST_JUNCTIONS;
 use planning::{print_ratios, print_times, Planners};
@@ -95,15 +95,23 @@ fn report_planning(runs: usize, planners: &mut Planners, maps: &[NamedMap]) -> R
     Ok(())
 }
 
+/// Growth with N, and then the same trips with a split, which has the more labels.
 fn report_growth(extent: &Extent, planners: &mut Planners) -> Result<(), String> {
     let map = practice(MOST_JUNCTIONS);
-    let mut timed = Vec::new();
-    for trip in Targets::of(&map.bytes).with_labels(extent.label_counts) {
-        timed.push(planners.time(extent.runs, &map, &trip)?);
+    let trips = Targets::of(&map.bytes).with_labels(extent.label_counts);
+    let split: Vec<NamedTrip> = trips.iter().map(NamedTrip::with_split).collect();
+    for (what, trips) in [
+        ("Growth with N", trips),
+        ("The same trips with a split", split),
+    ] {
+        let mut timed = Vec::new();
+        for trip in &trips {
+            timed.push(planners.time(extent.runs, &map, trip)?);
+        }
+        println!("### {what}, nanoseconds per label\n");
+        print_times(&timed);
+        println!("### {what}, ratios\n");
+        print_ratios(&timed);
     }
-    println!("### Growth with N, nanoseconds per label\n");
-    print_times(&timed);
-    println!("### Growth with N, ratios\n");
-    print_ratios(&timed);
     Ok(())
 }
