@@ -58,16 +58,12 @@ fn random_rules(random: &mut Random, unit: u64) -> RuleWords {
     if random.one_in(10) {
         return EUROPEAN_RULES;
     }
-    let [spell_limit, break_time, shift_limit, rest_time] = random_limits(random, unit);
-    let [first_part, second_part] = random_parts(random, break_time);
-    [
-        spell_limit,
-        break_time,
-        shift_limit,
-        rest_time,
-        first_part,
-        second_part,
-    ]
+    let limits = random_limits(random, unit);
+    let [_, break_time, ..] = limits;
+    let mut rules = [0; 6];
+    rules[..4].copy_from_slice(&limits);
+    rules[4..].copy_from_slice(&random_parts(random, break_time));
+    rules
 }
 
 /// Words 6 to 9.
@@ -91,7 +87,8 @@ fn random_limits(random: &mut Random, unit: u64) -> [u64; 4] {
 }
 
 /// Words 10 and 11. Together the parts are often as long as the break, so that sums of pauses
-/// coincide, and often shorter, so that plans have them; neither is so small that pauses alone would fill a case with states.
+/// coincide, and often shorter, so that plans have them; neither is so small that pauses alone would
+/// fill a case with states.
 pub fn random_parts(random: &mut Random, break_time: u64) -> [u64; 2] {
     let third = break_time / 3;
     let part = |length: u64| length.clamp(1, break_time);
