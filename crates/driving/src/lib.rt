@@ -81,7 +81,7 @@ pub fn unmarked(figures: Figures) -> u32
     if figures.marked { 0 } else { 1 }
 }
 
-// The figures after driving on: one road time is added to each.
+// The figures after driving on: one road time is added to spell and shift, and the mark stays.
 pub fn driven(figures: Figures, seconds: u32) -> Figures
     requires { ⌜ T (noneAbove (wheelFigures figures) highestLimits) × (seconds ≤ 1440000) ⌝ }
     ensures { λ r. ⌜ r ≡ drivenOn seconds figures ⌝ }
