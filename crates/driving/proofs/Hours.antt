@@ -103,6 +103,7 @@ pub figures-bounded : (f : Figures) → T (noneAbove (wheelFigures f) highestLim
 figures-bounded f within =
     above-both (wheelFigures f) highestLimits _ _ within (above-more _ _ _ _ (mark-high (f .marked)) above-end)
 
+-- what has no higher figure has the mark if the other has it
 marked-too : (b a : Bool) → markFigure b ≤ markFigure a → a ≡ true → b ≡ true
 marked-too true a low is = refl
 marked-too false true low is = absurd (omega arith)

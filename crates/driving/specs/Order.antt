@@ -12,17 +12,21 @@ use Rattle.driving.specs.declared.Figures.{Figures}
 use Rattle.driving.specs.declared.Rules.{Rules}
 use Rattle.driving.specs.Hours.{hasSplit}
 
+-- spell limit, break, shift limit, rest, first part, second part
+abbrev pub rulesOf : ℕ → ℕ → ℕ → ℕ → ℕ → ℕ → Rules
+rulesOf spell break shift rest first second =
+    record {
+      «spell_limit» = record { 0 = spell };
+      «break_time» = record { 0 = break };
+      «shift_limit» = record { 0 = shift };
+      «rest_time» = record { 0 = rest };
+      «first_part» = record { 0 = first };
+      «second_part» = record { 0 = second };
+    }
+
 -- the European figures
 abbrev pub europeanRules : Rules
-europeanRules =
-    record {
-      «spell_limit» = record { 0 = 16200 };
-      «break_time» = record { 0 = 2700 };
-      «shift_limit» = record { 0 = 32400 };
-      «rest_time» = record { 0 = 39600 };
-      «first_part» = record { 0 = 900 };
-      «second_part» = record { 0 = 1800 };
-    }
+europeanRules = rulesOf 16200 2700 32400 39600 900 1800
 
 -- the bytes of an order
 abbrev pub orderBytes : ℕ
@@ -44,14 +48,7 @@ orderOf bytes =
       figures =
           record { spell = record { 0 = orderWord bytes 4 }; shift = record { 0 = orderWord bytes 5 }; marked = false };
       rules =
-          record {
-            «spell_limit» = record { 0 = orderWord bytes 6 };
-            «break_time» = record { 0 = orderWord bytes 7 };
-            «shift_limit» = record { 0 = orderWord bytes 8 };
-            «rest_time» = record { 0 = orderWord bytes 9 };
-            «first_part» = record { 0 = orderWord bytes 10 };
-            «second_part» = record { 0 = orderWord bytes 11 };
-          };
+          rulesOf (orderWord bytes 6) (orderWord bytes 7) (orderWord bytes 8) (orderWord bytes 9) (orderWord bytes 10) (orderWord bytes 11);
     }
 
 -- A rule is one ≤ sign: the word that it is charged to, and whether it is kept. A rule on one word is charged to that word, and one

@@ -8,6 +8,7 @@ use Rattle.replies.specs.declared.Reply.{Reply}
 use Rattle.replies.specs.Told.{succeeded}
 use Rattle.replies.specs.Alike.{sameReply}
 use Rattle.driving.specs.declared.Rules.{Rules}
+use Rattle.driving.specs.Order.{rulesOf}
 use Rattle.moves.specs.Trip.{Stretch, Trip}
 use Rattle.theory.specs.Lists.{every}
 use Rattle.theory.specs.Figures.{noneAbove, sameEach, lexicographic}
@@ -25,18 +26,6 @@ record Worked : Type 0 where
 
 abbrev road : ℕ → ℕ → ℕ → Stretch
 road from to seconds = record { from = from; to = to; seconds = seconds }
-
--- spell limit, break, shift limit, rest, first part, second part
-abbrev ruled : ℕ → ℕ → ℕ → ℕ → ℕ → ℕ → Rules
-ruled spell break shift rest first second =
-    record {
-      «spell_limit» = record { 0 = spell };
-      «break_time» = record { 0 = break };
-      «shift_limit» = record { 0 = shift };
-      «rest_time» = record { 0 = rest };
-      «first_part» = record { 0 = first };
-      «second_part» = record { 0 = second };
-    }
 
 -- from source to target, departure 0, by these rules and latest arrival, with this spell and shift
 abbrev tripUnder : Rules → ℕ → List Stretch → List Bool → ℕ → ℕ → ℕ → Trip
@@ -57,7 +46,7 @@ tripUnder rules latest roads parks source target spell =
 
 -- by the European rules with no split, latest 3,000
 abbrev tripBy : List Stretch → List Bool → ℕ → ℕ → ℕ → Trip
-tripBy = tripUnder (ruled 16200 2700 32400 39600 0 0) 3000
+tripBy = tripUnder (rulesOf 16200 2700 32400 39600 0 0) 3000
 
 works : Worked → Bool
 unfolding searchReply answerIn labelsIn planMoves planRows noneAbove sameEach lexicographic
@@ -102,19 +91,19 @@ cases =
     }
     -- two parts that are together shorter than the break; the second needs the first, and the first leaves spell
     ∷ record {
-      trip = tripUnder (ruled 100 45 1000 500 10 20) 160 (road 1 2 40 ∷ road 2 3 40 ∷ road 3 4 40 ∷ []) (false ∷ false ∷ true ∷ false ∷ []) 1 4 0;
+      trip = tripUnder (rulesOf 100 45 1000 500 10 20) 160 (road 1 2 40 ∷ road 2 3 40 ∷ road 3 4 40 ∷ []) (false ∷ false ∷ true ∷ false ∷ []) 1 4 0;
       reply = succeeded 7 150;
       rows = row 1 1 40 ∷ row 1 2 80 ∷ row 4 3 90 ∷ row 5 3 110 ∷ row 1 3 150 ∷ [];
     }
     -- the mark is kept over a drive: the first part at junction 2, the second at junction 3
     ∷ record {
-      trip = tripUnder (ruled 100 45 1000 500 10 20) 160 (road 1 2 40 ∷ road 2 3 40 ∷ road 3 4 40 ∷ []) (false ∷ true ∷ true ∷ false ∷ []) 1 4 0;
+      trip = tripUnder (rulesOf 100 45 1000 500 10 20) 160 (road 1 2 40 ∷ road 2 3 40 ∷ road 3 4 40 ∷ []) (false ∷ true ∷ true ∷ false ∷ []) 1 4 0;
       reply = succeeded 10 150;
       rows = row 1 1 40 ∷ row 4 2 50 ∷ row 1 2 90 ∷ row 5 3 110 ∷ row 1 3 150 ∷ [];
     }
     -- of equal clock, spell and shift the marked one ranks lower, at junction 5 with the mark than at target 3 without: it is counted
     ∷ record {
-      trip = tripUnder (ruled 25 25 25 30 10 10) 70 (road 1 2 20 ∷ road 1 4 10 ∷ road 2 3 20 ∷ road 4 5 20 ∷ []) (false ∷ true ∷ false ∷ true ∷ false ∷ []) 1 3 0;
+      trip = tripUnder (rulesOf 25 25 25 30 10 10) 70 (road 1 2 20 ∷ road 1 4 10 ∷ road 2 3 20 ∷ road 4 5 20 ∷ []) (false ∷ true ∷ false ∷ true ∷ false ∷ []) 1 3 0;
       reply = succeeded 16 70;
       rows = row 1 1 20 ∷ row 3 2 50 ∷ row 1 3 70 ∷ [];
     }

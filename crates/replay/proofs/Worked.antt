@@ -14,7 +14,7 @@ use Rattle.replies.specs.Alike.{sameReply}
 use Rattle.driving.specs.declared.Figures.{Figures}
 use Rattle.driving.specs.declared.Rules.{Rules}
 use Rattle.driving.specs.Hours.{driverFigures}
-use Rattle.driving.specs.Order.{firstBroken, badRules, badFigures}
+use Rattle.driving.specs.Order.{rulesOf, firstBroken, badRules, badFigures}
 use Rattle.replay.specs.Trace.{recordsFrom, pausedBefore, joined}
 use Rattle.replay.specs.Replay.{afterEach, isOdd, isPast, isStopped, replayReply, figuresAfter}
 
@@ -27,27 +27,11 @@ marked spell shift = record { spell = record { 0 = spell }; shift = record { 0 =
 
 -- spell limit 100, break 10, shift limit 200, this rest, and no split
 abbrev ruled : ℕ → Rules
-ruled rest =
-    record {
-      «spell_limit» = record { 0 = 100 };
-      «break_time» = record { 0 = 10 };
-      «shift_limit» = record { 0 = 200 };
-      «rest_time» = record { 0 = rest };
-      «first_part» = record { 0 = 0 };
-      «second_part» = record { 0 = 0 };
-    }
+ruled rest = rulesOf 100 10 200 rest 0 0
 
 -- spell limit 16,200, break 2,700, shift limit 32,400, rest 39,600, and these parts
 abbrev split : ℕ → ℕ → Rules
-split first second =
-    record {
-      «spell_limit» = record { 0 = 16200 };
-      «break_time» = record { 0 = 2700 };
-      «shift_limit» = record { 0 = 32400 };
-      «rest_time» = record { 0 = 39600 };
-      «first_part» = record { 0 = first };
-      «second_part» = record { 0 = second };
-    }
+split first second = rulesOf 16200 2700 32400 39600 first second
 
 -- by these rules and from these figures, the trace of these bytes gets this reply and leaves these figures
 record Case : Type 0 where

@@ -7,6 +7,7 @@ use lib.ListN.{getD, set}
 use Rattle.replies.specs.declared.Reply.{Reply}
 use Rattle.driving.specs.declared.Figures.{Figures}
 use Rattle.driving.specs.declared.Rules.{Rules}
+use Rattle.driving.specs.Order.{rulesOf}
 
 -- number, place, arrival; the numbers after them stay
 abbrev pub replyPut : List ℕ → Reply → List ℕ
@@ -16,17 +17,9 @@ replyPut lent reply = set (set (set lent 0 (reply .number)) 1 (reply .place)) 2 
 abbrev pub partPut : List ℕ → ℕ → ℕ → List ℕ
 partPut lent from length = set (set lent 0 from) 1 length
 
--- rules, as words 6 to 11 of an order: spell limit, break, shift limit, rest, first part, second part; the words after them are not read
+-- rules, as words 6 to 11 of an order; the words after them are not read
 abbrev pub rulesIn : List ℕ → Rules
-rulesIn words =
-    record {
-      «spell_limit» = record { 0 = getD words 0 0 };
-      «break_time» = record { 0 = getD words 1 0 };
-      «shift_limit» = record { 0 = getD words 2 0 };
-      «rest_time» = record { 0 = getD words 3 0 };
-      «first_part» = record { 0 = getD words 4 0 };
-      «second_part» = record { 0 = getD words 5 0 };
-    }
+rulesIn words = rulesOf (getD words 0 0) (getD words 1 0) (getD words 2 0) (getD words 3 0) (getD words 4 0) (getD words 5 0)
 
 -- figures: spell, shift, and the mark, which any number but 0 stands for; the words after them are not read
 abbrev pub figuresIn : List ℕ → Figures
