@@ -9,13 +9,14 @@ use borrow.Author.Tests.{eqb-true, eq-eqb, ne-eqb}
 use lib.Dec.{eqb}
 use Rattle.booleans.proofs.Tests.{not-both, and-true}
 use Rattle.roadmap.specs.Format.{roadCount, roadFrom}
-use Rattle.driving.specs.declared.Order.{Order}
 use Rattle.driving.specs.Hours.{firstPause, lastPause}
 use Rattle.states.specs.declared.State.{State}
 use Rattle.moves.specs.declared.Move.{Move}
-use Rattle.moves.specs.Trip.{Trip, tripOf}
+use Rattle.moves.specs.declared.Run.{Run}
+use Rattle.moves.specs.Trip.{Trip}
 use Rattle.moves.specs.Moves.{mayPause, offers, paused}
-use Rattle.moves.proofs.Trips.{roads-in, order-in, leaves-road}
+use Rattle.moves.specs.Runs.{Tied}
+use Rattle.moves.proofs.Trips.{leaves-road}
 use Rattle.moves.proofs.Stepped.{leaves-range}
 use Rattle.moves.proofs.Offered.{pause-range, Offer, by-drive, by-pause, offer, offers-pause}
 use Rattle.journeys.specs.Journeys.{succs}
@@ -28,30 +29,27 @@ use Rattle.candidates.specs.Trying.{Weighed, BestBelow}
 use Rattle.candidates.proofs.Results.{move-drive, move-pause, result-pause}
 use Rattle.candidates.proofs.Trials.{tried-over, tried-next}
 
-module _ (map : List ℕ) (o : Order) (s : State) where
-  abbrev trip : Trip
-  trip = tripOf map o
-
+module _ {map : List ℕ} {run : Run} {trip : Trip} (tied : Tied map run trip) (s : State) where
   -- a road that leaves the junction is offered, and only that
   pub road-offered : (r : ℕ) → 1 ≤ r → r ≤ roadCount map → roadFrom map r ≡ s .junction → offers trip s (moveAt trip s r) ≡ true
   unfolding offers
-  road-offered r low high from = rw (move-drive map o s r high, leaves-road map o (s .junction) r low high) (eq-eqb _ _ from)
+  road-offered r low high from = rw (move-drive tied s r high, leaves-road tied (s .junction) r low high) (eq-eqb _ _ from)
 
   pub named-road : (r : ℕ) → r ≤ roadCount map → Names trip s r → roadFrom map r ≡ s .junction
   unfolding offers
   named-road r high named =
-      eqb-true _ _ (rw (move-drive map o s r high, leaves-road map o (s .junction) r (named .low) high) at (named .offered))
+      eqb-true _ _ (rw (move-drive tied s r high, leaves-road tied (s .junction) r (named .low) high) at (named .offered))
 
   -- a pause is offered under its cursor exactly where the rules offer it
   pub pause-offered : (kind cursor : ℕ) → mayPause trip s kind ≡ true → cursor ≡ roadCount map + (kind - 1) → offers trip s (moveAt trip s cursor) ≡ true
   pause-offered kind cursor may is =
-      rw (move-pause map o s cursor kind (pause-range trip s kind may .0) is) (offers-pause trip s kind may)
+      rw (move-pause tied s cursor kind (pause-range trip s kind may .0) is) (offers-pause trip s kind may)
 
   pub named-pause : (kind cursor : ℕ) → firstPause ≤ kind → cursor ≡ roadCount map + (kind - 1) → Names trip s cursor → mayPause trip s kind ≡ true
   unfolding offers
   named-pause kind cursor low is named =
       and-true {a = eqb (s .junction) (s .junction)}
-      (rw (move-pause map o s cursor kind low is, ne-eqb kind 1 (λ e. omega arith)) at (named .offered))
+      (rw (move-pause tied s cursor kind low is, ne-eqb kind 1 (λ e. omega arith)) at (named .offered))
       .1
 
   -- the cursor of an offered move
@@ -63,12 +61,12 @@ module _ (map : List ℕ) (o : Order) (s : State) where
 
   cursor-of : (m : Move) → Offer trip s m → CursorOf m
   cursor-of m (by-drive e leaving) =
-      let range = leaves-range map o (s .junction) (m .number) leaving in
+      let range = leaves-range tied (s .junction) (m .number) leaving in
       record {
         cursor = m .number;
         low = range .0;
         high = omega (arith, range .1);
-        is = move-drive map o s (m .number) (range .1) ∙ sym e;
+        is = move-drive tied s (m .number) (range .1) ∙ sym e;
       }
   cursor-of m (by-pause e may) =
       let range = pause-range trip s (m .kind) may in
@@ -76,7 +74,7 @@ module _ (map : List ℕ) (o : Order) (s : State) where
         cursor = roadCount map + (m .kind - 1);
         low = omega (arith, range .0);
         high = omega (arith, range .0, range .1);
-        is = move-pause map o s _ (m .kind) (range .0) refl ∙ sym e;
+        is = move-pause tied s _ (m .kind) (range .0) refl ∙ sym e;
       }
 
   -- each successor is what some cursor leads to
@@ -93,7 +91,7 @@ module _ (map : List ℕ) (o : Order) (s : State) where
         cursor = by .cursor;
         named = record {
           low = by .low;
-          high = rw (roads-in map o) (by .high);
+          high = rw (tied .roads) (by .high);
           offered = rw (by .is) (one .offered);
           lawful = rw (by .is) (one .lawful);
         };
@@ -110,7 +108,7 @@ module _ (map : List ℕ) (o : Order) (s : State) where
           passed = λ t at above below.
               let led = succs-led t at in
               rw (led .is)
-              (tried .passed (led .cursor) (omega (arith, rw (roads-in map o) at (led .named .high))) (led .named) (rw (← led .is) above)
+              (tried .passed (led .cursor) (omega (arith, rw (tied .roads) at (led .named .high))) (led .named) (rw (← led .is) above)
               (λ some. rw (tried .is some, ← led .is) (below some)));
         }
 
@@ -123,12 +121,12 @@ module _ (map : List ℕ) (o : Order) (s : State) where
           (λ c low′ high named. not-both (named-pause kind c low (omega arith) named) closed) tried
 
       pub pause-tried : (best next r : Best) → next .cursor ≡ roadCount map + (kind - 1) → mayPause trip s kind ≡ true
-          → next .state ≡ paused kind (o .rules) s → Weighed o labels bound best next r → BestBelow trip labels s bound (roadCount map + (kind - 1)) best
+          → next .state ≡ paused kind (run .order .rules) s → Weighed (run .order) labels bound best next r → BestBelow trip labels s bound (roadCount map + (kind - 1)) best
           → BestBelow trip labels s bound (roadCount map + kind) r
       pause-tried best next r at may is weighed tried =
           subst (λ (end : ℕ). BestBelow trip labels s bound end r) after-k
-          (tried-next trip labels s bound best next r (rw at tried) (omega arith) (rw (roads-in map o) (omega (arith, pause-range trip s kind may)))
-          (pause-offered kind (next .cursor) may at) (is ∙ result-pause map o s (next .cursor) kind low at) (rw (order-in map o) weighed))
+          (tried-next trip labels s bound best next r (rw at tried) (omega arith) (rw (tied .roads) (omega (arith, pause-range trip s kind may)))
+          (pause-offered kind (next .cursor) may at) (is ∙ result-pause tied s (next .cursor) kind low at) (rw (tied .order) weighed))
         where
           after-k : next .cursor + 1 ≡ roadCount map + kind
           after-k = omega arith

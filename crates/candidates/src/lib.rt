@@ -2,9 +2,10 @@
 ghost use mathlib.Core.Path.{_≡_};
 ghost use Prim.Native.Nat.{_+_, _-_, _≤_, _<_};
 ghost use lib.ListN.{length};
-ghost use Rattle.roadmap.specs.Format.{junctionCount, roadCount};
+ghost use Rattle.roadmap.specs.Format.{roadCount};
 ghost use Rattle.driving.specs.Hours.{firstPause, lastPause};
-ghost use Rattle.moves.specs.Runs.{Accepted, InRange, tripIn};
+ghost use Rattle.moves.specs.Trip.{junctionsIn};
+ghost use Rattle.moves.specs.Runs.{Accepted, tripIn, RangeIn};
 ghost use Rattle.labels.specs.LabelWords.{settled};
 ghost use Rattle.labels.specs.Lists.{Lists, Says};
 ghost use Rattle.candidates.specs.Candidates.{resultAt, Names};
@@ -30,7 +31,7 @@ pub struct Best {
 // The state that a cursor's move leads to.
 pub fn result_at(map: &[u8], run: Run, state: State, cursor: u32) -> State
     requires { ⌜ Accepted (now map) run ⌝ }
-    requires { ⌜ InRange (junctionCount (now map)) (run .order) state ⌝ }
+    requires { ⌜ RangeIn (tripIn (now map) run) state ⌝ }
     requires { ⌜ Names (tripIn (now map) run) state cursor ⌝ }
     ensures { λ r. ⌜ r ≡ resultAt (tripIn (now (map .entry)) run) state cursor ⌝ }
 {
@@ -103,8 +104,8 @@ fn best_road(
     bound: Bound,
 ) -> Best
     requires { ⌜ Accepted (now map) run ⌝ }
-    requires { ⌜ InRange (junctionCount (now map)) (run .order) state ⌝ }
-    requires { ⌜ Lists (now words) (now heads) (now spells) (now shifts) n × (junctionCount (now map) < length (now heads)) ⌝ }
+    requires { ⌜ RangeIn (tripIn (now map) run) state ⌝ }
+    requires { ⌜ Lists (now words) (now heads) (now spells) (now shifts) n × (junctionsIn (tripIn (now map) run) < length (now heads)) ⌝ }
     ensures { λ r. ⌜ BestBelow (tripIn (now (map .entry)) run) (settled (now (words .entry)) n) state bound (roadCount (now (map .entry)) + 1) r ⌝ }
 {
     let sizes = run.sizes;
@@ -138,8 +139,8 @@ fn try_pause(
     kind: u32,
 ) -> Best
     requires { ⌜ Accepted (now map) run ⌝ }
-    requires { ⌜ InRange (junctionCount (now map)) (run .order) state ⌝ }
-    requires { ⌜ Lists (now words) (now heads) (now spells) (now shifts) n × (junctionCount (now map) < length (now heads)) ⌝ }
+    requires { ⌜ RangeIn (tripIn (now map) run) state ⌝ }
+    requires { ⌜ Lists (now words) (now heads) (now spells) (now shifts) n × (junctionsIn (tripIn (now map) run) < length (now heads)) ⌝ }
     requires { ⌜ (firstPause ≤ kind) × (kind ≤ lastPause) ⌝ }
     requires { ⌜ BestBelow (tripIn (now map) run) (settled (now words) n) state bound (roadCount (now map) + (kind - 1)) best ⌝ }
     ensures { λ r. ⌜ BestBelow (tripIn (now (map .entry)) run) (settled (now (words .entry)) n) state bound (roadCount (now (map .entry)) + kind) r ⌝ }
@@ -170,8 +171,8 @@ fn best_pause(
     road: Best,
 ) -> Best
     requires { ⌜ Accepted (now map) run ⌝ }
-    requires { ⌜ InRange (junctionCount (now map)) (run .order) state ⌝ }
-    requires { ⌜ Lists (now words) (now heads) (now spells) (now shifts) n × (junctionCount (now map) < length (now heads)) ⌝ }
+    requires { ⌜ RangeIn (tripIn (now map) run) state ⌝ }
+    requires { ⌜ Lists (now words) (now heads) (now spells) (now shifts) n × (junctionsIn (tripIn (now map) run) < length (now heads)) ⌝ }
     requires { ⌜ BestBelow (tripIn (now map) run) (settled (now words) n) state bound (roadCount (now map) + 1) road ⌝ }
     ensures { λ r. ⌜ BestBelow (tripIn (now (map .entry)) run) (settled (now (words .entry)) n) state bound (roadCount (now (map .entry)) + lastPause) r ⌝ }
 {
@@ -209,8 +210,8 @@ pub fn next_candidate(
     bound: Bound,
 ) -> u32
     requires { ⌜ Accepted (now map) run ⌝ }
-    requires { ⌜ InRange (junctionCount (now map)) (run .order) state ⌝ }
-    requires { ⌜ Lists (now words) (now heads) (now spells) (now shifts) n × (junctionCount (now map) < length (now heads)) ⌝ }
+    requires { ⌜ RangeIn (tripIn (now map) run) state ⌝ }
+    requires { ⌜ Lists (now words) (now heads) (now spells) (now shifts) n × (junctionsIn (tripIn (now map) run) < length (now heads)) ⌝ }
     ensures { λ r. ⌜ NextIs (tripIn (now (map .entry)) run) (settled (now (words .entry)) n) state bound r ⌝ }
 {
     let road = best_road(map, run, words, heads, spells, shifts, n, state, bound);

@@ -22,24 +22,19 @@ use Rattle.states.specs.States.{startOf, legal}
 use Rattle.states.proofs.Compared.{legal-within, within-legal, legal-clock}
 use Rattle.moves.specs.declared.Move.{Move}
 use Rattle.moves.specs.declared.Run.{Run}
-use Rattle.moves.specs.Trip.{Trip, tripOf, roadIn, roadsIn, junctionsIn}
+use Rattle.moves.specs.Trip.{Trip, tripOf, roadsIn, junctionsIn}
 use Rattle.moves.specs.Moves.{offers, after, moveSeconds}
-use Rattle.moves.specs.Runs.{Accepted, InRange, tripIn}
+use Rattle.moves.specs.Runs.{Accepted, tripIn, Tied, InRange, RangeIn}
+pub use Rattle.moves.specs.Runs.{SoundTrip}
 use Rattle.moves.proofs.Trips.{roads-in, junctions-in, order-in, road-in}
 use Rattle.moves.proofs.Stepped.{offered-road}
 use Rattle.moves.proofs.Offered.{pause-allowed}
-
--- what is sound of a run's record: its roads lead to its junctions and take time, and so do its pauses
-pub record SoundTrip (trip : Trip) : Type 0 where
-  pub to-low : (r : ℕ) → 1 ≤ r → r ≤ roadsIn trip → 1 ≤ roadIn trip r .to
-  pub to-high : (r : ℕ) → 1 ≤ r → r ≤ roadsIn trip → roadIn trip r .to ≤ junctionsIn trip
-  pub seconds : (r : ℕ) → 1 ≤ r → r ≤ roadsIn trip → 1 ≤ roadIn trip r .seconds
-  pub ordered : AcceptedOrder (junctionsIn trip) (trip .order)
 
 pub sound-trip : (map : List ℕ) (o : Order) → AcceptedMap map → AcceptedOrder (junctionCount map) o → SoundTrip (tripOf map o)
 sound-trip map o accepted ordered =
     let sound = sound-map map accepted in
     record {
+      few = rw (junctions-in map o) (sound .counts .few-junctions);
       to-low = λ r low high. let top = within r high in rw (road-in map o r low top) (sound .roads r low top .to .above);
       to-high = λ r low high.
           let top = within r high in rw (road-in map o r low top, junctions-in map o) (sound .roads r low top .to .below);
@@ -89,8 +84,7 @@ module _ (trip : Trip) (sound : SoundTrip trip) (s : State) (m : Move) (offered 
       (cases (eqb (m .kind) 1))
 
   -- and a legal one leads to a state in range
-  pub range-after : InRange (junctionsIn trip) (trip .order) s → legal (trip .order) (after trip s m) ≡ true →
-      InRange (junctionsIn trip) (trip .order) (after trip s m)
+  pub range-after : RangeIn trip s → legal (trip .order) (after trip s m) ≡ true → RangeIn trip (after trip s m)
   range-after range lawful =
       let junction = junction-after (range .low) (range .high) in
       record { low = junction .0; high = junction .1; lawful = lawful }
@@ -105,11 +99,15 @@ start-range junctions o ordered =
           (above-more _ _ _ _ (ordered .times-rise) (figures-within (o .figures) (o .rules) (ordered .sound-figures)));
     }
 
--- a state in range of an accepted order has figures that one road time can be added to
-module _ (junctions : ℕ) (o : Order) (ordered : AcceptedOrder junctions o) (s : State) (range : InRange junctions o s) where
+-- so is the start of a run
+pub run-starts : {map : List ℕ} {run : Run} {trip : Trip} → Tied map run trip → SoundTrip trip → RangeIn trip (startOf (run .order))
+run-starts {trip = trip} tied sound = rw (← tied .order) (start-range (junctionsIn trip) (trip .order) (sound .ordered))
+
+-- a state in range has figures that one road time can be added to
+module _ (trip : Trip) (sound : SoundTrip trip) (s : State) (range : RangeIn trip s) where
   pub clock-high : s .clock .0 ≤ 2000000000
-  clock-high = omega (arith, legal-clock o s (range .lawful), ordered .latest-high)
+  clock-high = omega (arith, legal-clock (trip .order) s (range .lawful), sound .ordered .latest-high)
 
   pub figures-high : T (noneAbove (wheelFigures (s .figures)) highestLimits)
   figures-high =
-      above-trans _ _ _ (above-tail _ _ _ _ (legal-within o s (range .lawful))) (limits-within (o .rules) (ordered .sound-rules))
+      above-trans _ _ _ (above-tail _ _ _ _ (legal-within (trip .order) s (range .lawful))) (limits-within (trip .order .rules) (sound .ordered .sound-rules))

@@ -7,14 +7,14 @@ use borrow.Author.Tests.{eq-eqb, ne-eqb, leb-true}
 use lib.Dec.{leb, eqb}
 use Rattle.booleans.proofs.Tests.{and-true}
 use Rattle.roadmap.specs.Format.{roadCount}
-use Rattle.driving.specs.declared.Order.{Order}
 use Rattle.states.specs.declared.State.{State}
 use Rattle.states.specs.States.{legal}
 use Rattle.moves.specs.declared.Move.{Move}
+use Rattle.moves.specs.declared.Run.{Run}
 use Rattle.moves.specs.declared.Step.{Step}
-use Rattle.moves.specs.Trip.{Trip, stretchOf, tripOf, roadIn, roadsIn}
+use Rattle.moves.specs.Trip.{Trip, stretchOf, roadIn, roadsIn}
 use Rattle.moves.specs.Moves.{move, leaves, mayPause, offers, driven, paused, after, judged, stepped}
-use Rattle.moves.proofs.Trips.{roads-in, road-in, order-in}
+use Rattle.moves.specs.Runs.{Tied}
 
 module _ (trip : Trip) (s : State) (m : Move) where
   pub stepped-drive : m .kind ≡ 1 →
@@ -28,10 +28,10 @@ module _ (trip : Trip) (s : State) (m : Move) where
   stepped-pause not-1 = rw (ne-eqb _ _ not-1)
 
 -- a road that leaves a junction is one of the map's
-pub leaves-range : (map : List ℕ) (o : Order) (j r : ℕ) → leaves (tripOf map o) j r ≡ true → (1 ≤ r) × (r ≤ roadCount map)
-leaves-range map o j r e =
-    let range = and-true (and-true {a = leb 1 r && leb r (roadsIn (tripOf map o))} e .0) in
-    (leb-true _ _ (range .0), rw (roads-in map o) at (leb-true r (roadsIn (tripOf map o)) (range .1)))
+pub leaves-range : {map : List ℕ} {run : Run} {trip : Trip} → Tied map run trip → (j r : ℕ) → leaves trip j r ≡ true → (1 ≤ r) × (r ≤ roadCount map)
+leaves-range {trip = trip} tied j r e =
+    let range = and-true (and-true {a = leb 1 r && leb r (roadsIn trip)} e .0) in
+    (leb-true _ _ (range .0), rw (tied .roads) at (leb-true r (roadsIn trip) (range .1)))
 
 -- an offered drive is of a road of the map
 pub offered-road : (trip : Trip) (s : State) (m : Move) → offers trip s m ≡ true → eqb (m .kind) 1 ≡ true → (1 ≤ m .number) × (m .number ≤ roadsIn trip)
@@ -42,23 +42,23 @@ offered-road trip s m offered drive =
     (leb-true _ _ (range .0), leb-true _ _ (range .1))
 
 -- what the code finds of a drive and of a pause is what the definition says
-module _ (map : List ℕ) (o : Order) (s : State) (number : ℕ) where
-  pub drive-foreign : leaves (tripOf map o) (s .junction) number ≡ false → Step.Foreign ≡ stepped (tripOf map o) s (move 1 number)
-  drive-foreign e = rw (stepped-drive (tripOf map o) s (move 1 number) refl, e)
+module _ {map : List ℕ} {run : Run} {trip : Trip} (tied : Tied map run trip) (s : State) (number : ℕ) where
+  pub drive-foreign : leaves trip (s .junction) number ≡ false → Step.Foreign ≡ stepped trip s (move 1 number)
+  drive-foreign e = rw (stepped-drive trip s (move 1 number) refl, e)
 
-  pub drive-told : {reached : State} → leaves (tripOf map o) (s .junction) number ≡ true → reached ≡ driven (stretchOf map number) s →
-      judged true (legal o reached) reached ≡ stepped (tripOf map o) s (move 1 number)
+  pub drive-told : {reached : State} → leaves trip (s .junction) number ≡ true → reached ≡ driven (stretchOf map number) s →
+      judged true (legal (run .order) reached) reached ≡ stepped trip s (move 1 number)
   drive-told {reached} e is =
-      let range = leaves-range map o (s .junction) number e in
-      rw (stepped-drive (tripOf map o) s (move 1 number) refl, e, road-in map o number (range .0) (range .1), order-in map o, is)
+      let range = leaves-range tied (s .junction) number e in
+      rw (stepped-drive trip s (move 1 number) refl, e, tied .road number (range .0) (range .1), tied .order, is)
 
   module _ (kind : ℕ) (not-1 : kind ≡ 1 → ⊥) where
-    pub pause-elsewhere : (number ≡ s .junction → ⊥) → Step.Foreign ≡ stepped (tripOf map o) s (move kind number)
-    pause-elsewhere other = rw (stepped-pause (tripOf map o) s (move kind number) not-1, ne-eqb _ _ other)
+    pub pause-elsewhere : (number ≡ s .junction → ⊥) → Step.Foreign ≡ stepped trip s (move kind number)
+    pause-elsewhere other = rw (stepped-pause trip s (move kind number) not-1, ne-eqb _ _ other)
 
-    pub pause-foreign : number ≡ s .junction → mayPause (tripOf map o) s kind ≡ false → Step.Foreign ≡ stepped (tripOf map o) s (move kind number)
-    pause-foreign here e = rw (stepped-pause (tripOf map o) s (move kind number) not-1, eq-eqb _ _ here, e)
+    pub pause-foreign : number ≡ s .junction → mayPause trip s kind ≡ false → Step.Foreign ≡ stepped trip s (move kind number)
+    pause-foreign here e = rw (stepped-pause trip s (move kind number) not-1, eq-eqb _ _ here, e)
 
-    pub pause-told : {reached : State} → number ≡ s .junction → mayPause (tripOf map o) s kind ≡ true → reached ≡ paused kind (o .rules) s →
-        judged true (legal o reached) reached ≡ stepped (tripOf map o) s (move kind number)
-    pause-told {reached} here e is = rw (stepped-pause (tripOf map o) s (move kind number) not-1, eq-eqb _ _ here, e, order-in map o, is)
+    pub pause-told : {reached : State} → number ≡ s .junction → mayPause trip s kind ≡ true → reached ≡ paused kind (run .order .rules) s →
+        judged true (legal (run .order) reached) reached ≡ stepped trip s (move kind number)
+    pause-told {reached} here e is = rw (stepped-pause trip s (move kind number) not-1, eq-eqb _ _ here, e, tied .order, is)

@@ -10,8 +10,10 @@ use lib.Dec.{eqb}
 use lib.ListN.{length, getD}
 use Rattle.roadmap.specs.Format.{junctionCount, roadCount, carPark, roadFrom}
 use Rattle.driving.specs.declared.Order.{Order}
-use Rattle.moves.specs.Trip.{stretchOf, counted, tripOf, noStretch, roadIn, parkIn, roadsIn, junctionsIn}
+use Rattle.moves.specs.declared.Run.{Run}
+use Rattle.moves.specs.Trip.{Trip, stretchOf, counted, tripOf, noStretch, roadIn, parkIn, roadsIn, junctionsIn}
 use Rattle.moves.specs.Moves.{leaves}
+use Rattle.moves.specs.Runs.{tripIn, Tied}
 
 pub counted-length : {A : Type 0} (f : ℕ → A) (k n : ℕ) → length (counted f k n) ≡ n
 unfolding counted
@@ -58,12 +60,24 @@ module _ (map : List ℕ) (order : Order) where
       back : (r : ℕ) → 1 ≤ r → 1 + (r - 1) ≡ r
       back r low = omega arith
 
-  -- which roads leave a junction, by the map
-  pub leaves-zero : (j r : ℕ) → r < 1 → leaves (tripOf map order) j r ≡ false
+-- all of it of the trip that contracts name
+pub run-tied : (map : List ℕ) (run : Run) → Tied map run (tripIn map run)
+run-tied map run =
+    record {
+      junctions = junctions-in map (run .order);
+      roads = roads-in map (run .order);
+      road = road-in map (run .order);
+      park = park-in map (run .order);
+      order = order-in map (run .order);
+    }
+
+-- which roads leave a junction, by the map
+module _ {map : List ℕ} {run : Run} {trip : Trip} (tied : Tied map run trip) where
+  pub leaves-zero : (j r : ℕ) → r < 1 → leaves trip j r ≡ false
   leaves-zero j r h = rw (lt-leb _ _ h)
 
-  pub leaves-beyond : (j r : ℕ) → 1 ≤ r → roadCount map < r → leaves (tripOf map order) j r ≡ false
-  leaves-beyond j r low h = rw (le-leb _ _ low, roads-in, lt-leb _ _ h)
+  pub leaves-beyond : (j r : ℕ) → 1 ≤ r → roadCount map < r → leaves trip j r ≡ false
+  leaves-beyond j r low h = rw (le-leb _ _ low, tied .roads, lt-leb _ _ h)
 
-  pub leaves-road : (j r : ℕ) → 1 ≤ r → r ≤ roadCount map → leaves (tripOf map order) j r ≡ eqb (roadFrom map r) j
-  leaves-road j r low high = rw (le-leb _ _ low, roads-in, le-leb _ _ high, road-in r low high)
+  pub leaves-road : (j r : ℕ) → 1 ≤ r → r ≤ roadCount map → leaves trip j r ≡ eqb (roadFrom map r) j
+  leaves-road j r low high = rw (le-leb _ _ low, tied .roads, le-leb _ _ high, tied .road r low high)

@@ -1,16 +1,18 @@
--- What the code knows of a run: the map and the order are accepted, and a state's figures are in range. Assumes nothing.
+-- What the code knows of a run: the map and the order are accepted; what its trip is in the map's bytes, and what is sound of it; a
+-- state's figures are in range. Assumes nothing.
 use mathlib.Core.Path.{_≡_}
 use mathlib.Core.Bool.{true}
 use mathlib.Core.List.{List}
 use Prim.Native.Nat.{ℕ, _≤_}
-use Rattle.roadmap.specs.Format.{HasSizes, junctionCount}
+use lib.Dec.{eqb}
+use Rattle.roadmap.specs.Format.{HasSizes, mostJunctions, junctionCount, roadCount, carPark}
 use Rattle.mapcheck.specs.MapCheck.{AcceptedMap}
 use Rattle.driving.specs.declared.Order.{Order}
 use Rattle.driving.specs.Accepted.{AcceptedOrder}
 use Rattle.moves.specs.declared.Run.{Run}
 use Rattle.states.specs.declared.State.{State}
 use Rattle.states.specs.States.{legal}
-use Rattle.moves.specs.Trip.{Trip, tripOf}
+use Rattle.moves.specs.Trip.{Trip, stretchOf, tripOf, roadIn, parkIn, roadsIn, junctionsIn}
 
 pub record Accepted (map : List ℕ) (run : Run) : Type 0 where
   pub sized : HasSizes map (run .sizes)
@@ -20,8 +22,28 @@ pub record Accepted (map : List ℕ) (run : Run) : Type 0 where
 abbrev pub tripIn : List ℕ → Run → Trip
 tripIn map run = tripOf map (run .order)
 
+-- the trip is that of the map's bytes and the run's order
+pub record Tied (map : List ℕ) (run : Run) (trip : Trip) : Type 0 where
+  pub junctions : junctionsIn trip ≡ junctionCount map
+  pub roads : roadsIn trip ≡ roadCount map
+  pub road : (r : ℕ) → 1 ≤ r → r ≤ roadCount map → roadIn trip r ≡ stretchOf map r
+  pub park : (j : ℕ) → 1 ≤ j → j ≤ junctionCount map → parkIn trip j ≡ eqb (carPark map j) 1
+  pub order : trip .order ≡ run .order
+
+-- what is sound of a trip: its junctions are few enough, its roads lead to them and take time, and so do its pauses
+pub record SoundTrip (trip : Trip) : Type 0 where
+  pub few : junctionsIn trip ≤ mostJunctions
+  pub to-low : (r : ℕ) → 1 ≤ r → r ≤ roadsIn trip → 1 ≤ roadIn trip r .to
+  pub to-high : (r : ℕ) → 1 ≤ r → r ≤ roadsIn trip → roadIn trip r .to ≤ junctionsIn trip
+  pub seconds : (r : ℕ) → 1 ≤ r → r ≤ roadsIn trip → 1 ≤ roadIn trip r .seconds
+  pub ordered : AcceptedOrder (junctionsIn trip) (trip .order)
+
 -- a state that a legal move, or the start, leads to
 pub record InRange (junctions : ℕ) (o : Order) (s : State) : Type 0 where
   pub low : 1 ≤ s .junction
   pub high : s .junction ≤ junctions
   pub lawful : legal o s ≡ true
+
+-- the same, of a trip
+abbrev pub RangeIn : Trip → State → Type 0
+RangeIn trip s = InRange (junctionsIn trip) (trip .order) s

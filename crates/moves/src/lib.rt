@@ -2,13 +2,13 @@
 ghost use mathlib.Core.Path.{_≡_};
 ghost use mathlib.Core.Bool.{true};
 ghost use Prim.Native.Nat.{_≤_};
-ghost use Rattle.roadmap.specs.Format.{junctionCount, roadCount};
+ghost use Rattle.roadmap.specs.Format.{roadCount};
 ghost use Rattle.driving.specs.Accepted.{SoundRules};
 ghost use Rattle.driving.specs.Hours.{firstPause, lastPause};
 ghost use Rattle.states.specs.States.{legal};
 ghost use Rattle.moves.specs.Trip.{stretchOf};
 ghost use Rattle.moves.specs.Moves.{move, driven, paused, judged, stepped, leaves, mayPause};
-ghost use Rattle.moves.specs.Runs.{Accepted, InRange, tripIn};
+ghost use Rattle.moves.specs.Runs.{Accepted, tripIn, RangeIn};
 ghost use Rattle.moves.specs.Opened.{OpenedSays};
 use driving::Order;
 use driving::Rules;
@@ -56,7 +56,7 @@ pub fn seconds_of(map: &[u8], run: Run, r: u32) -> u32
 // The state after driving road r.
 pub fn after_drive(map: &[u8], run: Run, state: State, r: u32) -> State
     requires { ⌜ Accepted (now map) run ⌝ }
-    requires { ⌜ InRange (junctionCount (now map)) (run .order) state ⌝ }
+    requires { ⌜ RangeIn (tripIn (now map) run) state ⌝ }
     requires { ⌜ (1 ≤ r) × (r ≤ roadCount (now map)) ⌝ }
     ensures { λ s. ⌜ s ≡ driven (stretchOf (now (map .entry)) r) state ⌝ }
 {
@@ -104,7 +104,7 @@ pub fn leaves_road(map: &[u8], run: Run, j: u32, r: u32) -> bool
 // Whether the rules offer a pause of this kind, any number, in a state.
 pub fn may_pause(map: &[u8], run: Run, state: State, kind: u32) -> bool
     requires { ⌜ Accepted (now map) run ⌝ }
-    requires { ⌜ InRange (junctionCount (now map)) (run .order) state ⌝ }
+    requires { ⌜ RangeIn (tripIn (now map) run) state ⌝ }
     ensures { λ w. ⌜ w ≡ mayPause (tripIn (now (map .entry)) run) state kind ⌝ }
 {
     let sizes = run.sizes;
@@ -134,7 +134,7 @@ fn judge(order: Order, state: State) -> Step
 // The drive of road r, any number.
 pub fn drive(map: &[u8], run: Run, state: State, r: u32) -> Step
     requires { ⌜ Accepted (now map) run ⌝ }
-    requires { ⌜ InRange (junctionCount (now map)) (run .order) state ⌝ }
+    requires { ⌜ RangeIn (tripIn (now map) run) state ⌝ }
     ensures { λ w. ⌜ w ≡ stepped (tripIn (now (map .entry)) run) state (move 1 r) ⌝ }
 {
     let here = state.junction;
@@ -149,7 +149,7 @@ pub fn drive(map: &[u8], run: Run, state: State, r: u32) -> Step
 // A pause, of any kind but a drive's and at a junction of any number.
 pub fn pause(map: &[u8], run: Run, state: State, m: Move) -> Step
     requires { ⌜ Accepted (now map) run ⌝ }
-    requires { ⌜ InRange (junctionCount (now map)) (run .order) state ⌝ }
+    requires { ⌜ RangeIn (tripIn (now map) run) state ⌝ }
     requires { ⌜ (m .kind ≡ 1 → ⊥) ⌝ }
     ensures { λ w. ⌜ w ≡ stepped (tripIn (now (map .entry)) run) state m ⌝ }
 {
@@ -168,7 +168,7 @@ pub fn pause(map: &[u8], run: Run, state: State, m: Move) -> Step
 // Any move, as a sheet may hold it.
 pub fn take_move(map: &[u8], run: Run, state: State, m: Move) -> Step
     requires { ⌜ Accepted (now map) run ⌝ }
-    requires { ⌜ InRange (junctionCount (now map)) (run .order) state ⌝ }
+    requires { ⌜ RangeIn (tripIn (now map) run) state ⌝ }
     ensures { λ w. ⌜ w ≡ stepped (tripIn (now (map .entry)) run) state m ⌝ }
 {
     if m.kind == Move::DRIVE {

@@ -8,11 +8,9 @@ use lib.ListN.{length}
 use Rattle.replies.specs.declared.Refusal.the-variants.{ShortSheet}
 use Rattle.replies.specs.declared.Planning.{Planning}
 use Rattle.replies.specs.Told.{succeeded}
-use Rattle.moves.specs.declared.Run.{Run}
 use Rattle.states.specs.declared.State.{State}
 use Rattle.moves.specs.Trip.{Trip}
-use Rattle.moves.specs.Runs.{tripIn}
-use Rattle.moves.proofs.Rising.{SoundTrip, run-sound}
+use Rattle.moves.specs.Runs.{SoundTrip}
 use Rattle.sheets.specs.declared.Heading.{Heading}
 use Rattle.sheets.specs.Sheet.{headingFor, sheetNeeded, withHeading}
 use Rattle.sheets.specs.Written.{backward}
@@ -26,13 +24,7 @@ use Rattle.readback.proofs.Read.{label-held}
 use Rattle.readback.proofs.Backward.{sheet-written}
 use Rattle.planner.specs.Parts.{HandedBack}
 
-module _ (map : List ℕ) (run : Run) (words : List ℕ) (n : ℕ) (found : Found map run words n) where
-  abbrev trip : Trip
-  trip = tripIn map run
-
-  sound : SoundTrip trip
-  sound = run-sound map run (found .accepted)
-
+module _ (trip : Trip) (sound : SoundTrip trip) (words : List ℕ) (n : ℕ) (found : Found trip words n) where
   -- the answer is the last label
   pub answer-held : answerIn trip ≡ some (labelAt words n)
   answer-held =
@@ -43,7 +35,7 @@ module _ (map : List ℕ) (run : Run) (words : List ℕ) (n : ℕ) (found : Foun
   moves-below = omega (arith, plan-short trip sound (found .answered .1), found .held .count)
 
   module _ (moves : ℕ) (counted : moves ≡ moveCount trip) (before : List ℕ) where
-    pub handed-short : (needed : ℕ) → needed ≡ sheetNeeded moves → length before < needed → HandedBack map run before before (Planning.Refused (ShortSheet needed))
+    pub handed-short : (needed : ℕ) → needed ≡ sheetNeeded moves → length before < needed → HandedBack trip before before (Planning.Refused (ShortSheet needed))
     handed-short needed counts short =
         record {
           reply = λ fit room. rw (counts, counted) (sym (reply-short trip fit (length before) room (found .answered .1) (rw (counts, counted) at short)));
@@ -55,7 +47,7 @@ module _ (map : List ℕ) (run : Run) (words : List ℕ) (n : ℕ) (found : Foun
 
     pub handed-written : sheetNeeded moves ≤ length before → (last : State) → last ≡ labelAt words n → (heading : Heading) → heading ≡ headingFor moves last n → (rows after : List ℕ)
         → rows ≡ backward (planRows trip) 0 before → after ≡ withHeading rows heading
-        → HandedBack map run before after (Planning.Planned n (last .clock))
+        → HandedBack trip before after (Planning.Planned n (last .clock))
     handed-written fits last is heading made rows after moved written =
         let enough : sheetNeeded (moveCount trip) ≤ length before = rw counted at fits in
         record {

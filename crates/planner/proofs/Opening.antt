@@ -12,10 +12,7 @@ use Rattle.replies.specs.declared.Planning.{Planning}
 use Rattle.replies.specs.Told.{toldRefusal, toldPlan}
 use Rattle.replies.specs.First.{NoneFits, Refuses}
 use Rattle.replies.proofs.First.{none-fits, refusal-number, told-passes}
-use Rattle.driving.specs.Order.{orderOf}
-use Rattle.moves.specs.declared.Run.{Run}
-use Rattle.moves.specs.Trip.{Trip, tripOf}
-use Rattle.moves.specs.Runs.{tripIn}
+use Rattle.moves.specs.Trip.{Trip}
 use Rattle.moves.specs.Opened.{runTests}
 use Rattle.theory.specs.Lists.{memb}
 use Rattle.journeys.specs.Planning.{beforeSearch, tripFrom, searchTests, planned, searchReply, planReply, planSheetWhen, planSheet}
@@ -27,11 +24,11 @@ use Rattle.planner.specs.Parts.{Concluded}
 use Rattle.planner.specs.Planned.{Planned}
 
 -- the labels that fit, told otherwise
-pub as-many-fit : {map : List ℕ} {run : Run} {fit fit′ : ℕ} {ws : List ℕ} {outcome : Outcome} → fit ≡ fit′ → OutcomeSays map run fit ws outcome → OutcomeSays map run fit′ ws outcome
-as-many-fit {map} {run} {ws = ws} {outcome = outcome} e says = subst (λ (k : ℕ). OutcomeSays map run k ws outcome) e says
+pub as-many-fit : {trip : Trip} {fit fit′ : ℕ} {ws : List ℕ} {outcome : Outcome} → fit ≡ fit′ → OutcomeSays trip fit ws outcome → OutcomeSays trip fit′ ws outcome
+as-many-fit {trip} {ws = ws} {outcome = outcome} e says = subst (λ (k : ℕ). OutcomeSays trip k ws outcome) e says
 
-pub concluded-with : {map : List ℕ} {run : Run} {fit fit′ : ℕ} {before after : List ℕ} {answer : Planning} → fit ≡ fit′ → Concluded map run fit before after answer → Concluded map run fit′ before after answer
-concluded-with {map} {run} {before = before} {after = after} {answer = answer} e concluded = subst (λ (k : ℕ). Concluded map run k before after answer) e concluded
+pub concluded-with : {trip : Trip} {fit fit′ : ℕ} {before after : List ℕ} {answer : Planning} → fit ≡ fit′ → Concluded trip fit before after answer → Concluded trip fit′ before after answer
+concluded-with {trip} {before = before} {after = after} {answer = answer} e concluded = subst (λ (k : ℕ). Concluded trip k before after answer) e concluded
 
 module _ (map order words sheet : List ℕ) where
   abbrev fit : ℕ
@@ -56,17 +53,16 @@ module _ (map order words sheet : List ℕ) where
       (told-passes (λ (k : ℕ). not (memb eqb k beforeSearch)) (searchTests trip fit (length sheet)) (planned trip) tt tt)
 
   -- an opened run: what the search concludes
-  pub run-planned : (run : Run) → run .order ≡ orderOf order → NoneFits (runTests map order) → {words′ sheet′ : List ℕ} {answer : Planning}
-      → Concluded map run fit sheet sheet′ answer → Planned map order words words′ sheet sheet′ answer
+  pub run-planned : {trip : Trip} → trip ≡ tripFrom map order → NoneFits (runTests map order) → {words′ sheet′ : List ℕ} {answer : Planning}
+      → Concluded trip fit sheet sheet′ answer → Planned map order words words′ sheet sheet′ answer
   unfolding planReply searchReply planSheet
-  run-planned run same none {words′} {sheet′} {answer} concluded =
-      let trip-same : tripIn map run ≡ tripFrom map order = ap (tripOf map) same in
-      let told : toldPlan answer ≡ searchReply (tripFrom map order) fit (length sheet) = concluded .reply ∙ ap (λ (t : Trip). searchReply t fit (length sheet)) trip-same in
+  run-planned same none {words′} {sheet′} {answer} concluded =
+      let told : toldPlan answer ≡ searchReply (tripFrom map order) fit (length sheet) = concluded .reply ∙ ap (λ (t : Trip). searchReply t fit (length sheet)) same in
       let reply : toldPlan answer ≡ planReply map order fit (length sheet) = told ∙ sym (none-fits (runTests map order) (searchTests (tripFrom map order) fit (length sheet)) (planned (tripFrom map order)) none) in
       record {
         reply = reply;
         bytes = concluded .bytes
-            ∙ ap (λ (t : Trip). planSheetWhen (eqb (toldPlan answer .number) 0) t sheet) trip-same
+            ∙ ap (λ (t : Trip). planSheetWhen (eqb (toldPlan answer .number) 0) t sheet) same
             ∙ ap (λ (r : Reply). planSheetWhen (eqb (r .number) 0) (tripFrom map order) sheet) reply;
         kept = λ listed. absurd (late-number (tripFrom map order) (rw told at listed));
       }

@@ -6,17 +6,16 @@ use lib.Dec.{eqb}
 use lib.ListN.{length}
 use Rattle.replies.specs.declared.Planning.{Planning}
 use Rattle.replies.specs.Told.{toldPlan}
-use Rattle.moves.specs.declared.Run.{Run}
-use Rattle.moves.specs.Runs.{tripIn}
+use Rattle.moves.specs.Trip.{Trip}
 use Rattle.journeys.specs.Labels.{labelCount}
 use Rattle.journeys.specs.Planning.{searchReply, planSheetWhen}
 
--- the answer and the sheet afterwards, of an accepted run that has a journey and whose labels fit
-pub record HandedBack (map : List ℕ) (run : Run) (before after : List ℕ) (answer : Planning) : Type 0 where
-  pub reply : (fit : ℕ) → labelCount (tripIn map run) ≤ fit → toldPlan answer ≡ searchReply (tripIn map run) fit (length before)
-  pub bytes : after ≡ planSheetWhen (eqb (toldPlan answer .number) 0) (tripIn map run) before
+-- the answer and the sheet afterwards, of a trip that has a journey and whose labels fit
+pub record HandedBack (trip : Trip) (before after : List ℕ) (answer : Planning) : Type 0 where
+  pub reply : (fit : ℕ) → labelCount trip ≤ fit → toldPlan answer ≡ searchReply trip fit (length before)
+  pub bytes : after ≡ planSheetWhen (eqb (toldPlan answer .number) 0) trip before
 
--- the answer and the sheet afterwards, of an accepted run, where so many labels fit
-pub record Concluded (map : List ℕ) (run : Run) (fit : ℕ) (before after : List ℕ) (answer : Planning) : Type 0 where
-  pub reply : toldPlan answer ≡ searchReply (tripIn map run) fit (length before)
-  pub bytes : after ≡ planSheetWhen (eqb (toldPlan answer .number) 0) (tripIn map run) before
+-- the answer and the sheet afterwards, of a trip, where so many labels fit
+pub record Concluded (trip : Trip) (fit : ℕ) (before after : List ℕ) (answer : Planning) : Type 0 where
+  pub reply : toldPlan answer ≡ searchReply trip fit (length before)
+  pub bytes : after ≡ planSheetWhen (eqb (toldPlan answer .number) 0) trip before

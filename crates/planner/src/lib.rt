@@ -25,10 +25,11 @@ fn write_plan(
     moves: usize,
     sheet: &mut [u8],
 ) -> Planning
-    requires { ⌜ Found (now map) run (now words) n ⌝ }
+    requires { ⌜ Accepted (now map) run ⌝ }
+    requires { ⌜ Found (tripIn (now map) run) (now words) n ⌝ }
     requires { ⌜ n ≤ mostLabels ⌝ }
     requires { ⌜ (moves ≡ moveCount (tripIn (now map) run)) × (sheetNeeded moves ≤ length (now sheet)) ⌝ }
-    ensures { λ r. ⌜ HandedBack (now (map .entry)) run (now (sheet .entry)) (now (sheet .exit)) r ⌝ }
+    ensures { λ r. ⌜ HandedBack (tripIn (now (map .entry)) run) (now (sheet .entry)) (now (sheet .exit)) r ⌝ }
 {
     readback::write_moves(map, run, words, n, moves, sheet);
     let answer = labels::read_label(words, n);
@@ -41,9 +42,10 @@ fn write_plan(
 
 // The plan of a search that found an answer: refused where the sheet is short (14), else written to it.
 fn hand_back(map: &[u8], run: Run, words: &[u32], n: usize, sheet: &mut [u8]) -> Planning
-    requires { ⌜ Found (now map) run (now words) n ⌝ }
+    requires { ⌜ Accepted (now map) run ⌝ }
+    requires { ⌜ Found (tripIn (now map) run) (now words) n ⌝ }
     requires { ⌜ n ≤ mostLabels ⌝ }
-    ensures { λ r. ⌜ HandedBack (now (map .entry)) run (now (sheet .entry)) (now (sheet .exit)) r ⌝ }
+    ensures { λ r. ⌜ HandedBack (tripIn (now (map .entry)) run) (now (sheet .entry)) (now (sheet .exit)) r ⌝ }
 {
     let moves = readback::count_moves(words, n);
     let needed = sheets::sheet_needed(moves as u32);
@@ -64,8 +66,8 @@ fn conclude(
 ) -> Planning
     requires { ⌜ Accepted (now map) run ⌝ }
     requires { ⌜ fit ≤ mostLabels ⌝ }
-    requires { ⌜ OutcomeSays (now map) run fit (now words) outcome ⌝ }
-    ensures { λ r. ⌜ Concluded (now (map .entry)) run fit (now (sheet .entry)) (now (sheet .exit)) r ⌝ }
+    requires { ⌜ OutcomeSays (tripIn (now map) run) fit (now words) outcome ⌝ }
+    ensures { λ r. ⌜ Concluded (tripIn (now (map .entry)) run) fit (now (sheet .entry)) (now (sheet .exit)) r ⌝ }
 {
     match outcome {
         Outcome::Found(n) => hand_back(map, run, words, n, sheet),
@@ -77,7 +79,7 @@ fn conclude(
 // Planning of an accepted map and order.
 fn plan_run(map: &[u8], run: Run, words: &mut [u32], sheet: &mut [u8]) -> Planning
     requires { ⌜ Accepted (now map) run ⌝ }
-    ensures { λ r. ⌜ Concluded (now (map .entry)) run (labelsThatFit (length (now (words .entry)))) (now (sheet .entry)) (now (sheet .exit)) r ⌝ }
+    ensures { λ r. ⌜ Concluded (tripIn (now (map .entry)) run) (labelsThatFit (length (now (words .entry)))) (now (sheet .entry)) (now (sheet .exit)) r ⌝ }
 {
     let fit = states::labels_that_fit(words.len());
     let outcome = search::search(map, run, words);

@@ -6,12 +6,10 @@ use Prim.Native.Nat.{ℕ, _+_, _-_, _≤_, _<_}
 use native.Mathlib.Omega.{arith}
 use lib.ListN.{length, getD, length-append}
 use lib.Seq.{getD-at}
-use Rattle.moves.specs.declared.Run.{Run}
 use Rattle.states.specs.declared.State.{State}
 use Rattle.moves.specs.declared.Move.{Move}
 use Rattle.moves.specs.Trip.{Trip}
-use Rattle.moves.specs.Runs.{tripIn}
-use Rattle.moves.proofs.Rising.{run-sound}
+use Rattle.moves.specs.Runs.{SoundTrip}
 use Rattle.sheets.specs.declared.Row.{Row}
 use Rattle.sheets.specs.declared.Heading.{Heading}
 use Rattle.sheets.specs.Sheet.{sheetNeeded, sheetAfter, withHeading, withRow}
@@ -42,13 +40,10 @@ pub record Writing (trip : Trip) (n : ℕ) (before sheet : List ℕ) (k left : �
   pub long : length sheet ≡ length before
   pub is : sheet ≡ backward (planRows trip) left before
 
-module _ (bytes : List ℕ) (run : Run) (words : List ℕ) (n : ℕ) (found : Found bytes run words n) (before : List ℕ) where
-  abbrev trip : Trip
-  trip = tripIn bytes run
-
+module _ (trip : Trip) (sound : SoundTrip trip) (words : List ℕ) (n : ℕ) (found : Found trip words n) (before : List ℕ) where
   pub write-first : (m : ℕ) → m ≡ moveCount trip → Writing trip n before before n m
   write-first m size =
-      let whole : planRows trip ≡ rowsBack trip (n - 1) = plan-back trip (run-sound bytes run (found .accepted)) (found .answered) (n - 1) (omega (arith, found .held .count, found .held .low)) in
+      let whole : planRows trip ≡ rowsBack trip (n - 1) = plan-back trip sound (found .answered) (n - 1) (omega (arith, found .held .count, found .held .low)) in
       record {
         low = found .held .low;
         high = omega arith;
@@ -67,7 +62,7 @@ module _ (bytes : List ℕ) (run : Run) (words : List ℕ) (n : ℕ) (found : Fo
   -- and one at least, where label k is not the first
   pub write-some : (sheet : List ℕ) (k left : ℕ) → Writing trip n before sheet k left → 1 < k → 1 ≤ left
   write-some sheet k left writing more =
-      let back = back-next trip (run-sound bytes run (found .accepted)) (k - 1) (omega arith) (omega (arith, writing .high, found .held .count)) in
+      let back = back-next trip sound (k - 1) (omega arith) (omega (arith, writing .high, found .held .count)) in
       omega (arith, writing .many, ap length (back .rows), length-append (rowsBack trip (parentIn trip (label trip (k - 1)))) (rowAt (back .by-move) (label trip (k - 1)) ∷ []))
 
   -- the record of label k's own move is the last that is left
@@ -75,11 +70,11 @@ module _ (bytes : List ℕ) (run : Run) (words : List ℕ) (n : ℕ) (found : Fo
       → rowsBack trip (k - 1) ≡ rowsBack trip (parentOf words k - 1) ++ row ∷ []
   own-row k row more high for =
       let i : ℕ = k - 1 in
-      let back = back-next trip (run-sound bytes run (found .accepted)) i (omega arith) (omega (arith, found .held .count)) in
+      let back = back-next trip sound i (omega arith) (omega (arith, found .held .count)) in
       let p : ℕ = parentIn trip (label trip i) in
       let index : parentOf words k - 1 ≡ p = omega (arith, parent-word trip words n (found .held) k more high) in
       let here : labelAt words k ≡ label trip i = label-held trip words n (found .held) k (omega arith) high in
-      let same : for .by ≡ back .by-move = Option·some-injective _ _ (sym (for .lowest) ∙ moves-same (parent-state bytes run words n found k more high) here ∙ back .is-lowest) in
+      let same : for .by ≡ back .by-move = Option·some-injective _ _ (sym (for .lowest) ∙ moves-same (parent-state trip sound words n found k more high) here ∙ back .is-lowest) in
       let is : row ≡ rowAt (back .by-move) (label trip i) =
       for .is ∙ ap (λ (m : Move). rowAt m (labelAt words k)) same ∙ ap (rowAt (back .by-move)) here in
       rw (index, is) (back .rows)
@@ -119,5 +114,5 @@ module _ (bytes : List ℕ) (run : Run) (words : List ℕ) (n : ℕ) (found : Fo
   pub write-end : (sheet : List ℕ) (k left : ℕ) → Writing trip n before sheet k left → k ≤ 1 → sheet ≡ backward (planRows trip) 0 before
   write-end sheet k left writing end =
       let first : k - 1 ≡ 0 = omega (arith, writing .low) in
-      let none : left ≡ 0 = omega (arith, writing .many, ap (λ (i : ℕ). length (rowsBack trip i)) first, ap length (back-first trip (run-sound bytes run (found .accepted)))) in
+      let none : left ≡ 0 = omega (arith, writing .many, ap (λ (i : ℕ). length (rowsBack trip i)) first, ap length (back-first trip sound)) in
       writing .is ∙ ap (λ (j : ℕ). backward (planRows trip) j before) none

@@ -4,10 +4,8 @@ use mathlib.Core.List.{List, [], _∷_}
 use Prim.Native.Nat.{ℕ, _+_, _-_, _≤_, _<_}
 use native.Mathlib.Omega.{arith}
 use lib.ListN.{length, length-append}
-use Rattle.moves.specs.declared.Run.{Run}
 use Rattle.moves.specs.Trip.{Trip}
-use Rattle.moves.specs.Runs.{tripIn}
-use Rattle.moves.proofs.Rising.{run-sound}
+use Rattle.moves.specs.Runs.{SoundTrip}
 use Rattle.labels.specs.LabelWords.{parentOf}
 use Rattle.journeys.specs.Labels.{label, parentIn}
 use Rattle.journeys.specs.Plan.{moveCount}
@@ -38,7 +36,7 @@ module _ (trip : Trip) (words : List ℕ) (n : ℕ) (held : Holds trip words n) 
 pub record Counting (words : List ℕ) (n k m : ℕ) : Type 0 where
   pub low : 1 ≤ k
   pub few : m + k ≤ n
-  pub counts : (map : List ℕ) (run : Run) → Found map run words n → moveCount (tripIn map run) ≡ m + length (rowsBack (tripIn map run) (k - 1))
+  pub counts : (trip : Trip) → SoundTrip trip → Found trip words n → moveCount trip ≡ m + length (rowsBack trip (k - 1))
 
 module _ (words : List ℕ) (n : ℕ) where
   pub count-first : 1 ≤ n → Counting words n n 0
@@ -46,8 +44,8 @@ module _ (words : List ℕ) (n : ℕ) where
       record {
         low = low;
         few = omega arith;
-        counts = λ map run found.
-            omega (arith, plan-rows-length (tripIn map run), ap length (plan-back (tripIn map run) (run-sound map run (found .accepted)) (found .answered) (n - 1) (omega (arith, found .held .count))));
+        counts = λ trip sound found.
+            omega (arith, plan-rows-length trip, ap length (plan-back trip sound (found .answered) (n - 1) (omega (arith, found .held .count))));
       }
 
   pub count-next : Descends words n → (k m : ℕ) → Counting words n k m → 1 < k → Counting words n (parentOf words k) (m + 1)
@@ -57,18 +55,17 @@ module _ (words : List ℕ) (n : ℕ) where
       record {
         low = parent .low;
         few = omega (arith, parent .below, counting .few);
-        counts = λ map run found. one-more map run found high;
+        counts = λ trip sound found. one-more trip sound found high;
       }
     where
-      one-more : (map : List ℕ) (run : Run) → Found map run words n → k ≤ n → moveCount (tripIn map run) ≡ m + 1 + length (rowsBack (tripIn map run) (parentOf words k - 1))
-      one-more map run found high =
-          let trip : Trip = tripIn map run in
-          let back = back-next trip (run-sound map run (found .accepted)) (k - 1) (omega arith) (omega (arith, found .held .count)) in
+      one-more : (trip : Trip) → SoundTrip trip → Found trip words n → k ≤ n → moveCount trip ≡ m + 1 + length (rowsBack trip (parentOf words k - 1))
+      one-more trip sound found high =
+          let back = back-next trip sound (k - 1) (omega arith) (omega (arith, found .held .count)) in
           let p : ℕ = parentIn trip (label trip (k - 1)) in
           let at-parent : parentOf words k - 1 ≡ p = omega (arith, parent-word trip words n (found .held) k more high) in
-          rw at-parent (omega (arith, counting .counts map run found, ap length (back .rows), length-append (rowsBack trip p) (rowAt (back .by-move) (label trip (k - 1)) ∷ [])))
+          rw at-parent (omega (arith, counting .counts trip sound found, ap length (back .rows), length-append (rowsBack trip p) (rowAt (back .by-move) (label trip (k - 1)) ∷ [])))
 
   pub count-end : (k m : ℕ) → Counting words n k m → k ≤ 1 → CountsMoves words n m
-  count-end k m counting end map run found =
+  count-end k m counting end trip sound found =
       let first : k - 1 ≡ 0 = omega (arith, counting .low) in
-      omega (arith, counting .counts map run found, ap (λ (i : ℕ). length (rowsBack (tripIn map run) i)) first, ap length (back-first (tripIn map run) (run-sound map run (found .accepted))))
+      omega (arith, counting .counts trip sound found, ap (λ (i : ℕ). length (rowsBack trip i)) first, ap length (back-first trip sound))

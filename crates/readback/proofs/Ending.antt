@@ -5,11 +5,9 @@ use mathlib.Core.Option.{some}
 use Prim.Native.Nat.{ℕ, _+_, _-_, _*_, _≤_, _<_}
 use native.Mathlib.Omega.{arith}
 use lib.ListN.{length, getD}
-use Rattle.moves.specs.declared.Run.{Run}
 use Rattle.states.specs.declared.State.{State}
 use Rattle.moves.specs.Trip.{Trip}
-use Rattle.moves.specs.Runs.{Accepted, tripIn}
-use Rattle.moves.proofs.Rising.{SoundTrip, run-sound}
+use Rattle.moves.specs.Runs.{SoundTrip}
 use Rattle.journeys.specs.Labels.{labelCount}
 use Rattle.journeys.proofs.Labels.{label-some}
 use Rattle.states.specs.LabelSpace.{labelWords}
@@ -44,11 +42,10 @@ ended-holds trip sound words n ended fits =
         sym (subst (λ (j : ℕ). getD (column parentField words n) j 0 ≡ parentOf words (i + 1)) back
         (column-at parentField words n (i + 1) 0 (omega arith) (omega arith)))
 
-pub ended-found : (map : List ℕ) (run : Run) → Accepted map run → (words : List ℕ) (n : ℕ) {a : State}
-    → Ended (tripIn map run) (some a) (settled words n) (column parentField words n) → labelWords * n ≤ length words → Found map run words n
-ended-found map run accepted words n {a} ended fits =
+pub ended-found : (trip : Trip) → SoundTrip trip → (words : List ℕ) (n : ℕ) {a : State}
+    → Ended trip (some a) (settled words n) (column parentField words n) → labelWords * n ≤ length words → Found trip words n
+ended-found trip sound words n {a} ended fits =
     record {
-      accepted = accepted;
-      held = ended-holds (tripIn map run) (run-sound map run accepted) words n ended fits;
+      held = ended-holds trip sound words n ended fits;
       answered = (a, ended .answer);
     }

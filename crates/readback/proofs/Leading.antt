@@ -11,14 +11,15 @@ use borrow.Author.Tests.{eqb-true, eq-eqb, ne-eqb}
 use lib.Dec.{eqb}
 use Rattle.booleans.proofs.Tests.{not-both, and-true}
 use Rattle.roadmap.specs.Format.{roadCount, roadFrom}
-use Rattle.driving.specs.declared.Order.{Order}
 use Rattle.driving.specs.Hours.{firstPause, lastPause}
 use Rattle.states.specs.declared.State.{State}
 use Rattle.moves.specs.declared.Move.{Move}
-use Rattle.moves.specs.Trip.{Trip, tripOf, stretchOf}
+use Rattle.moves.specs.declared.Run.{Run}
+use Rattle.moves.specs.Trip.{Trip, stretchOf}
 use Rattle.moves.specs.Moves.{move, mayPause, offers, driven, paused, after}
 use Rattle.states.specs.States.{legal, sameState}
-use Rattle.moves.proofs.Trips.{order-in, road-in, leaves-road}
+use Rattle.moves.specs.Runs.{Tied}
+use Rattle.moves.proofs.Trips.{leaves-road}
 use Rattle.moves.proofs.Stepped.{leaves-range}
 use Rattle.moves.proofs.Offered.{pause-range, Offer, by-drive, by-pause, offer, offers-pause}
 use Rattle.journeys.specs.Plan.{movesTo, moveTo}
@@ -121,32 +122,33 @@ module _ (trip : Trip) (p t : State) where
         lowest = seeking .ahead;
       }
 
--- what the code asks of a state reached is what the definition asks of the move
-module _ (map : List ℕ) (o : Order) (p t : State) where
-  pub drive-leads : (r : ℕ) (s : State) → 1 ≤ r → r ≤ roadCount map → s ≡ driven (stretchOf map r) p → movesTo (tripOf map o) p t (move 1 r) ≡ (legal o s && sameState s t)
-  unfolding after
-  drive-leads r s low high is = rw (road-in map o r low high, order-in map o, is)
+-- a road of the junction
+pub record OwnRoad (map : List ℕ) (p : State) (r : ℕ) : Type 0 where
+  pub low : 1 ≤ r
+  pub high : r ≤ roadCount map
+  pub own : roadFrom map r ≡ p .junction
 
-  pub pause-leads : (kind : ℕ) (s : State) → firstPause ≤ kind → s ≡ paused kind (o .rules) p → movesTo (tripOf map o) p t (move kind (p .junction)) ≡ (legal o s && sameState s t)
+-- what the code asks of a state reached is what the definition asks of the move
+module _ {map : List ℕ} {run : Run} {trip : Trip} (tied : Tied map run trip) (p t : State) where
+  pub drive-leads : (r : ℕ) (s : State) → 1 ≤ r → r ≤ roadCount map → s ≡ driven (stretchOf map r) p → movesTo trip p t (move 1 r) ≡ (legal (run .order) s && sameState s t)
   unfolding after
-  pause-leads kind s low is = rw (ne-eqb kind 1 (λ e. omega arith), order-in map o, is)
+  drive-leads r s low high is = rw (tied .road r low high, tied .order, is)
+
+  pub pause-leads : (kind : ℕ) (s : State) → firstPause ≤ kind → s ≡ paused kind (run .order .rules) p → movesTo trip p t (move kind (p .junction)) ≡ (legal (run .order) s && sameState s t)
+  unfolding after
+  pause-leads kind s low is = rw (ne-eqb kind 1 (λ e. omega arith), tied .order, is)
 
   -- a road that leaves the junction is offered, and only such
-  pub road-offered : (r : ℕ) → 1 ≤ r → r ≤ roadCount map → roadFrom map r ≡ p .junction → offers (tripOf map o) p (move 1 r) ≡ true
+  pub road-offered : (r : ℕ) → 1 ≤ r → r ≤ roadCount map → roadFrom map r ≡ p .junction → offers trip p (move 1 r) ≡ true
   unfolding offers
-  road-offered r low high from = rw (leaves-road map o (p .junction) r low high) (eq-eqb _ _ from)
+  road-offered r low high from = rw (leaves-road tied (p .junction) r low high) (eq-eqb _ _ from)
 
-  pub record OwnRoad (r : ℕ) : Type 0 where
-    pub low : 1 ≤ r
-    pub high : r ≤ roadCount map
-    pub own : roadFrom map r ≡ p .junction
-
-  pub offered-road : (r : ℕ) → offers (tripOf map o) p (move 1 r) ≡ true → OwnRoad r
+  pub offered-road : (r : ℕ) → offers trip p (move 1 r) ≡ true → OwnRoad map p r
   unfolding offers
   offered-road r e =
-      let range = leaves-range map o (p .junction) r e in
+      let range = leaves-range tied (p .junction) r e in
       record {
         low = range .0;
         high = range .1;
-        own = eqb-true _ _ (rw (leaves-road map o (p .junction) r (range .0) (range .1)) at e);
+        own = eqb-true _ _ (rw (leaves-road tied (p .junction) r (range .0) (range .1)) at e);
       }

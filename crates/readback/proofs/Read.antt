@@ -4,17 +4,13 @@ use mathlib.Core.List.{List}
 use Prim.Native.Nat.{ℕ, _-_, _≤_, _<_}
 use native.Mathlib.Omega.{arith}
 use lib.ListN.{getD}
-use Rattle.roadmap.specs.Format.{junctionCount}
-use Rattle.moves.specs.declared.Run.{Run}
 use Rattle.states.specs.declared.State.{State}
-use Rattle.moves.specs.Trip.{Trip, tripOf}
-use Rattle.moves.specs.Runs.{InRange, tripIn}
-use Rattle.moves.proofs.Trips.{junctions-in, order-in}
-use Rattle.moves.proofs.Rising.{run-sound}
+use Rattle.moves.specs.Trip.{Trip}
+use Rattle.moves.specs.Runs.{SoundTrip, RangeIn}
 use Rattle.theory.proofs.Lists.{mem-at}
 use Rattle.journeys.specs.Journeys.{startIn}
 use Rattle.journeys.specs.Labels.{labelsIn, label, parentIn}
-use Rattle.journeys.proofs.Journeys.{RangeIn, reached-range}
+use Rattle.journeys.proofs.Journeys.{reached-range}
 use Rattle.journeys.proofs.Labels.{label-exactly}
 use Rattle.journeys.proofs.Plan.{parent-move}
 use Rattle.labels.specs.LabelWords.{parentOf, labelAt}
@@ -29,17 +25,11 @@ label-held trip words n held k low high =
     sym (settled-at words n k (startIn trip) low high)
     ∙ ap (λ (l : List State). getD l (k - 1) (startIn trip)) (held .states)
 
-module _ (map : List ℕ) (run : Run) (words : List ℕ) (n : ℕ) (found : Found map run words n) where
-  abbrev trip : Trip
-  trip = tripIn map run
-
-  pub label-range : (k : ℕ) → 1 ≤ k → k ≤ n → InRange (junctionCount map) (run .order) (labelAt words k)
-  unfolding tripOf
+module _ (trip : Trip) (sound : SoundTrip trip) (words : List ℕ) (n : ℕ) (found : Found trip words n) where
+  pub label-range : (k : ℕ) → 1 ≤ k → k ≤ n → RangeIn trip (labelAt words k)
   label-range k low high =
-      rw (label-held trip words n (found .held) k low high) (rw (junctions-in map (run .order), order-in map (run .order)) at range)
-    where
-      range : RangeIn trip (label trip (k - 1))
-      range = reached-range trip (run-sound map run (found .accepted)) (label-exactly trip (run-sound map run (found .accepted)) (label trip (k - 1)) .0 (mem-at (startIn trip) (labelsIn trip) (k - 1) (omega (arith, found .held .count))) .0 .reached)
+      rw (label-held trip words n (found .held) k low high)
+      (reached-range trip sound (label-exactly trip sound (label trip (k - 1)) .0 (mem-at (startIn trip) (labelsIn trip) (k - 1) (omega (arith, found .held .count))) .0 .reached))
 
   -- the parent's words are the definition's parent
   pub parent-state : (k : ℕ) → 1 < k → k ≤ n → labelAt words (parentOf words k) ≡ label trip (parentIn trip (label trip (k - 1)))
@@ -51,4 +41,4 @@ module _ (map : List ℕ) (run : Run) (words : List ℕ) (n : ℕ) (found : Foun
   pub parent-leads : (k : ℕ) → 1 < k → k ≤ n → SomeMove trip (labelAt words (parentOf words k)) (labelAt words k)
   parent-leads k low high =
       rw (parent-state k low high, label-held trip words n (found .held) k (omega arith) high)
-      (parent-move trip (run-sound map run (found .accepted)) (k - 1) (omega arith) (omega (arith, found .held .count)))
+      (parent-move trip sound (k - 1) (omega arith) (omega (arith, found .held .count)))

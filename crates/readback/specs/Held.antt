@@ -5,9 +5,8 @@ use mathlib.Core.Option.{some}
 use Prim.Native.Nat.{ℕ, _+_, _*_, _≤_, _<_}
 use lib.ListN.{length}
 use Rattle.states.specs.declared.State.{State}
-use Rattle.moves.specs.declared.Run.{Run}
 use Rattle.moves.specs.Trip.{Trip}
-use Rattle.moves.specs.Runs.{Accepted, tripIn}
+use Rattle.moves.specs.Runs.{SoundTrip}
 use Rattle.journeys.specs.Labels.{answerIn, labelsIn, labelCount, label, parentIn}
 use Rattle.journeys.specs.Plan.{moveCount}
 use Rattle.states.specs.LabelSpace.{labelWords}
@@ -27,11 +26,10 @@ pub record Holds (trip : Trip) (words : List ℕ) (n : ℕ) : Type 0 where
 abbrev pub Answered : Trip → Type 0
 Answered trip = (a : State) × (answerIn trip ≡ some a)
 
--- the words hold the finished search of a run that has a journey
-pub record Found (map : List ℕ) (run : Run) (words : List ℕ) (n : ℕ) : Type 0 where
-  pub accepted : Accepted map run
-  pub held : Holds (tripIn map run) words n
-  pub answered : Answered (tripIn map run)
+-- the words hold the finished search of a trip that has a journey
+pub record Found (trip : Trip) (words : List ℕ) (n : ℕ) : Type 0 where
+  pub held : Holds trip words n
+  pub answered : Answered trip
 
 -- the parent of every label but the first stands before it
 pub record ParentBefore (words : List ℕ) (k : ℕ) : Type 0 where
@@ -43,6 +41,6 @@ pub record Descends (words : List ℕ) (n : ℕ) : Type 0 where
   pub fits : labelWords * n ≤ length words
   pub parents : (k : ℕ) → 1 < k → k ≤ n → ParentBefore words k
 
--- m is the number of moves, whichever run the words hold
+-- m is the number of moves, whichever trip's search the words hold
 abbrev pub CountsMoves : List ℕ → ℕ → ℕ → Type 0
-CountsMoves words n m = (map : List ℕ) (run : Run) → Found map run words n → m ≡ moveCount (tripIn map run)
+CountsMoves words n m = (trip : Trip) → SoundTrip trip → Found trip words n → m ≡ moveCount trip

@@ -4,10 +4,10 @@ ghost use mathlib.Core.Bool.{_&&_};
 ghost use mathlib.Core.Option.{some};
 ghost use Prim.Native.Nat.{_≤_};
 ghost use lib.ListN.{length};
-ghost use Rattle.roadmap.specs.Format.{junctionCount, roadCount};
+ghost use Rattle.roadmap.specs.Format.{roadCount};
 ghost use Rattle.states.specs.States.{legal, sameState};
 ghost use Rattle.driving.specs.Hours.{firstPause};
-ghost use Rattle.moves.specs.Runs.{Accepted, InRange, tripIn};
+ghost use Rattle.moves.specs.Runs.{Accepted, tripIn, RangeIn};
 ghost use Rattle.sheets.specs.Sheet.{sheetNeeded};
 ghost use Rattle.sheets.specs.Written.{backward};
 ghost use Rattle.journeys.specs.Plan.{moveTo, moveCount, planRows};
@@ -33,7 +33,7 @@ fn leads_to(order: Order, state: State, t: State) -> bool
 
 // Whether a chain is followed past a road: it is not the chain's end, and its drive does not lead legally to t.
 fn passes_by(map: &[u8], run: Run, p: State, t: State, road: u32) -> bool
-    requires { ⌜ Accepted (now map) run × InRange (junctionCount (now map)) (run .order) p × (road ≤ roadCount (now map)) ⌝ }
+    requires { ⌜ Accepted (now map) run × RangeIn (tripIn (now map) run) p × (road ≤ roadCount (now map)) ⌝ }
     ensures { λ b. ⌜ b ≡ passesBy (tripIn (now (map .entry)) run) p t road ⌝ }
 {
     if road == 0 {
@@ -47,7 +47,7 @@ fn passes_by(map: &[u8], run: Run, p: State, t: State, road: u32) -> bool
 // The lowest road whose drive leads legally to t, 0 where none does. A chain lists a junction's roads rising.
 fn road_to(map: &[u8], run: Run, p: State, t: State) -> u32
     requires { ⌜ Accepted (now map) run ⌝ }
-    requires { ⌜ InRange (junctionCount (now map)) (run .order) p ⌝ }
+    requires { ⌜ RangeIn (tripIn (now map) run) p ⌝ }
     ensures { λ r. ⌜ RoadTo (tripIn (now (map .entry)) run) p t r ⌝ }
 {
     let mut reader = chains::at_junction(map, p.junction);
@@ -59,7 +59,7 @@ fn road_to(map: &[u8], run: Run, p: State, t: State) -> u32
 
 // Whether the pause of this kind is offered in p and leads legally to t.
 fn pauses_to(map: &[u8], run: Run, p: State, t: State, kind: u32) -> bool
-    requires { ⌜ Accepted (now map) run × InRange (junctionCount (now map)) (run .order) p × (firstPause ≤ kind) ⌝ }
+    requires { ⌜ Accepted (now map) run × RangeIn (tripIn (now map) run) p × (firstPause ≤ kind) ⌝ }
     ensures { λ b. ⌜ b ≡ pausesTo (tripIn (now (map .entry)) run) p t kind ⌝ }
 {
     if !moves::may_pause(map, run, p, kind) {
@@ -72,7 +72,7 @@ fn pauses_to(map: &[u8], run: Run, p: State, t: State, kind: u32) -> bool
 
 // The lowest kind of pause that leads legally to t: some kind does.
 fn pause_to(map: &[u8], run: Run, p: State, t: State) -> u32
-    requires { ⌜ Accepted (now map) run × InRange (junctionCount (now map)) (run .order) p × SomePause (tripIn (now map) run) p t ⌝ }
+    requires { ⌜ Accepted (now map) run × RangeIn (tripIn (now map) run) p × SomePause (tripIn (now map) run) p t ⌝ }
     ensures { λ kind. ⌜ PauseTo (tripIn (now (map .entry)) run) p t kind ⌝ }
 {
     let mut kind = Rules::FIRST_PAUSE;
@@ -85,7 +85,7 @@ fn pause_to(map: &[u8], run: Run, p: State, t: State) -> u32
 // The parent's move to t: the lowest kind, then the lowest road. Where no road leads there some pause does.
 pub fn move_to(map: &[u8], run: Run, p: State, t: State) -> Move
     requires { ⌜ Accepted (now map) run ⌝ }
-    requires { ⌜ InRange (junctionCount (now map)) (run .order) p ⌝ }
+    requires { ⌜ RangeIn (tripIn (now map) run) p ⌝ }
     requires { ⌜ SomeMove (tripIn (now map) run) p t ⌝ }
     ensures { λ m. ⌜ moveTo (tripIn (now (map .entry)) run) p t ≡ some m ⌝ }
 {
@@ -120,7 +120,7 @@ pub fn count_moves(words: &[u32], n: usize) -> usize
 // The record of the parent's move from p to t.
 fn row_for(map: &[u8], run: Run, p: State, t: State) -> Row
     requires { ⌜ Accepted (now map) run ⌝ }
-    requires { ⌜ InRange (junctionCount (now map)) (run .order) p ⌝ }
+    requires { ⌜ RangeIn (tripIn (now map) run) p ⌝ }
     requires { ⌜ SomeMove (tripIn (now map) run) p t ⌝ }
     ensures { λ r. ⌜ RowFor (tripIn (now (map .entry)) run) p t r ⌝ }
 {
@@ -135,7 +135,8 @@ fn row_for(map: &[u8], run: Run, p: State, t: State) -> Row
 
 // Writes the m records of the plan, from the last label's back along the parents.
 pub fn write_moves(map: &[u8], run: Run, words: &[u32], n: usize, m: usize, sheet: &mut [u8])
-    requires { ⌜ Found (now map) run (now words) n ⌝ }
+    requires { ⌜ Accepted (now map) run ⌝ }
+    requires { ⌜ Found (tripIn (now map) run) (now words) n ⌝ }
     requires { ⌜ (m ≡ moveCount (tripIn (now map) run)) × (sheetNeeded m ≤ length (now sheet)) ⌝ }
     ensures { λ _. ⌜ now (sheet .exit) ≡ backward (planRows (tripIn (now (map .entry)) run)) 0 (now (sheet .entry)) ⌝ }
 {

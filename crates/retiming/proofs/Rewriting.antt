@@ -7,13 +7,13 @@ use native.Mathlib.Omega.{arith}
 use lib.ListN.{length, take, drop, length-take}
 use lib.Seq.{length-take-le}
 use Rattle.replies.specs.declared.Refusal.{Refusal}
-use Rattle.roadmap.specs.Format.{junctionCount}
 use Rattle.moves.specs.declared.Run.{Run}
 use Rattle.states.specs.declared.State.{State}
 use Rattle.moves.specs.Trip.{Trip}
 use Rattle.states.specs.States.{startOf}
-use Rattle.moves.specs.Runs.{Accepted, InRange, tripIn}
-use Rattle.moves.proofs.Rising.{start-range}
+use Rattle.moves.specs.Runs.{Accepted, tripIn, RangeIn}
+use Rattle.moves.proofs.Trips.{run-tied}
+use Rattle.moves.proofs.Rising.{run-sound, run-starts}
 use Rattle.sheets.specs.declared.Row.{Row}
 use Rattle.sheets.specs.Sheet.{rowAt, rowsOf, sheetNeeded, withRow}
 use Rattle.sheets.specs.Written.{rowsPut}
@@ -96,7 +96,7 @@ module _ (map : List ℕ) (run : Run) (sheet : List ℕ) (moves : ℕ) (last : S
   pub record Rewriting (k : ℕ) (s : State) (out : List ℕ) : Type 0 where
     pub low : 1 ≤ k
     pub high : k ≤ moves + 1
-    pub range : InRange (junctionCount map) (run .order) s
+    pub range : RangeIn (tripIn map run) s
     -- the rest of the walk gives the rest of the records
     pub left : walkFrom k s (moves + 1 - k) ≡ reached last (drop (k - 1) rows)
     -- and those before it are written
@@ -109,7 +109,7 @@ module _ (map : List ℕ) (run : Run) (sheet : List ℕ) (moves : ℕ) (last : S
       record {
         low = omega arith;
         high = omega arith;
-        range = start-range (junctionCount map) (run .order) (accepted .ordered);
+        range = run-starts (run-tied map run) (run-sound map run accepted);
         left = ap (walkFrom 1 (startOf (run .order))) all ∙ timed;
         done = sym (none-from 0 before);
       }
@@ -152,7 +152,7 @@ module _ (map : List ℕ) (run : Run) (sheet : List ℕ) (moves : ℕ) (last : S
         record {
           low = omega arith;
           high = omega arith;
-          range = range-moved map run s (moveOf (rowAt sheet k)) t accepted (on .range) (handed .moved);
+          range = range-moved (tripIn map run) (run-sound map run accepted) s (moveOf (rowAt sheet k)) t (on .range) (handed .moved);
           left = rest .rest ∙ ap (reached last) (sym (ap (λ (i : ℕ). drop i rows) next ∙ drop-more (k - 1) rows (rest .zs) (rest .is)));
           done = ap (λ (l : List ℕ). withRow l k (trueRow (rowAt sheet k) t)) (on .done)
               ∙ row-behind 0 (take (k - 1) rows) before k (trueRow (rowAt sheet k) t) (omega (arith, length-take-le (k - 1) rows (omega (arith, within)), on .low)) (omega arith)

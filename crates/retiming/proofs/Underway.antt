@@ -5,12 +5,12 @@ use mathlib.Core.List.{List, [], _∷_}
 use Prim.Native.Nat.{ℕ, _+_, _-_, _≤_, _<_}
 use native.Mathlib.Omega.{arith}
 use Rattle.replies.specs.declared.Refusal.{Refusal}
-use Rattle.roadmap.specs.Format.{junctionCount}
 use Rattle.moves.specs.declared.Run.{Run}
 use Rattle.states.specs.declared.State.{State}
 use Rattle.states.specs.States.{startOf}
-use Rattle.moves.specs.Runs.{Accepted, InRange, tripIn}
-use Rattle.moves.proofs.Rising.{start-range}
+use Rattle.moves.specs.Runs.{Accepted, tripIn, RangeIn}
+use Rattle.moves.proofs.Trips.{run-tied}
+use Rattle.moves.proofs.Rising.{run-sound, run-starts}
 use Rattle.sheets.specs.declared.Row.{Row}
 use Rattle.sheets.specs.Sheet.{rowAt, rowsOf}
 use Rattle.retiming.specs.declared.Walked.{Walked}
@@ -23,7 +23,7 @@ module _ (clocks : Bool) (map : List ℕ) (run : Run) (sheet : List ℕ) (moves 
   pub record Underway (k : ℕ) (s : State) : Type 0 where
     pub low : 1 ≤ k
     pub high : k ≤ moves + 1
-    pub range : InRange (junctionCount map) (run .order) s
+    pub range : RangeIn (tripIn map run) s
     -- what the rest of the walk comes to is what the whole comes to
     pub rest : (r : Walked) → WalkSays (walk clocks (tripIn map run) k s (rowsOf sheet k (moves + 1 - k))) r → WalkSays (timing clocks map (run .order) sheet) r
 
@@ -34,7 +34,7 @@ module _ (clocks : Bool) (map : List ℕ) (run : Run) (sheet : List ℕ) (moves 
       record {
         low = omega arith;
         high = omega arith;
-        range = start-range (junctionCount map) (run .order) (accepted .ordered);
+        range = run-starts (run-tied map run) (run-sound map run accepted);
         rest = λ r h. subst (λ (n : ℕ). WalkSays (walk clocks (tripIn map run) 1 (startOf (run .order)) (rowsOf sheet 1 n)) r) all h;
       }
 
@@ -60,7 +60,7 @@ module _ (clocks : Bool) (map : List ℕ) (run : Run) (sheet : List ℕ) (moves 
         record {
           low = omega arith;
           high = omega arith;
-          range = range-moved map run s (moveOf (rowAt sheet k)) t accepted (on .range) (handed .moved);
+          range = range-moved (tripIn map run) (run-sound map run accepted) s (moveOf (rowAt sheet k)) t (on .range) (handed .moved);
           rest = λ r g. whole more r (says-reached clocks (tripIn map run) k s (rowAt sheet k) t handed (rowsOf sheet (k + 1) (moves + 1 - (k + 1))) r g);
         }
 

@@ -1,5 +1,5 @@
 -- The walk record by record. Assumes nothing.
-use mathlib.Core.Path.{_≡_, _∙_, refl, sym, ap, subst, subst₂}
+use mathlib.Core.Path.{_≡_, _∙_, refl, sym, ap, subst}
 use mathlib.Core.Bool.{Bool, true, false, not, _&&_}
 use mathlib.Core.List.{List, [], _∷_}
 use Prim.Native.Nat.{ℕ, zero, suc, _+_, _-_, _≤_}
@@ -13,12 +13,8 @@ use Rattle.moves.specs.declared.Step.the-variants.{Foreign, Overrun, Moved}
 use Rattle.moves.specs.Trip.{Trip}
 use Rattle.moves.specs.Moves.{judged, stepped, offers, after}
 use Rattle.states.specs.States.{legal}
-use Rattle.roadmap.specs.Format.{junctionCount}
-use Rattle.driving.specs.declared.Order.{Order}
-use Rattle.moves.specs.declared.Run.{Run}
-use Rattle.moves.specs.Runs.{Accepted, InRange, tripIn}
-use Rattle.moves.proofs.Trips.{junctions-in, order-in}
-use Rattle.moves.proofs.Rising.{sound-trip, range-after}
+use Rattle.moves.specs.Runs.{SoundTrip, RangeIn}
+use Rattle.moves.proofs.Rising.{range-after}
 use Rattle.sheets.specs.Sheet.{rowAt, rowsOf}
 use Rattle.sheets.specs.declared.Row.{Row}
 use Rattle.retiming.specs.declared.Walked.{Walked}
@@ -140,10 +136,5 @@ rows-next sheet k (suc n) low = ap (λ (m : ℕ). rowAt sheet k ∷ rowsOf sheet
     less n = omega arith
 
 -- a state in range is led to a state in range
-pub range-moved : (map : List ℕ) (run : Run) (s : State) (m : Move) (t : State) → Accepted map run → InRange (junctionCount map) (run .order) s →
-    MovedTo (tripIn map run) s m t → InRange (junctionCount map) (run .order) t
-range-moved map run s m t accepted range moved =
-    rw (moved .result)
-    (subst₂ (λ (j : ℕ) (o : Order). InRange j o (after (tripIn map run) s m)) (junctions-in map (run .order)) (order-in map (run .order))
-    (range-after (tripIn map run) (sound-trip map (run .order) (accepted .mapped) (accepted .ordered)) s m (moved .offered)
-    (rw (junctions-in map (run .order), order-in map (run .order)) range) (moved .lawful)))
+pub range-moved : (trip : Trip) → SoundTrip trip → (s : State) (m : Move) (t : State) → RangeIn trip s → MovedTo trip s m t → RangeIn trip t
+range-moved trip sound s m t range moved = rw (moved .result) (range-after trip sound s m (moved .offered) range (moved .lawful))

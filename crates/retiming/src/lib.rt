@@ -5,8 +5,7 @@ ghost use mathlib.Core.List.{[], _∷_};
 ghost use Prim.Native.Nat.{_+_, _≤_, _<_};
 ghost use lib.ListN.{length};
 ghost use Rattle.replies.specs.Told.{toldTiming};
-ghost use Rattle.roadmap.specs.Format.{junctionCount};
-ghost use Rattle.moves.specs.Runs.{Accepted, InRange, tripIn};
+ghost use Rattle.moves.specs.Runs.{Accepted, tripIn, RangeIn};
 ghost use Rattle.sheets.specs.Sheet.{sheetNeeded};
 ghost use Rattle.sheets.specs.Written.{Whole, rowsPut};
 ghost use Rattle.retiming.specs.Walk.{walk};
@@ -45,7 +44,7 @@ fn judge_clock(state: State, clock: Clock, k: usize, clocks: bool) -> Walked
 // The walk over one record, the k-th.
 fn walk_row(map: &[u8], run: Run, state: State, row: Row, k: usize, clocks: bool) -> Walked
     requires { ⌜ Accepted (now map) run ⌝ }
-    requires { ⌜ InRange (junctionCount (now map)) (run .order) state ⌝ }
+    requires { ⌜ RangeIn (tripIn (now map) run) state ⌝ }
     ensures { λ r. ⌜ WalkSays (walk clocks (tripIn (now (map .entry)) run) k state (row ∷ [])) r ⌝ }
 {
     let taken = Move {

@@ -7,14 +7,12 @@ use native.Mathlib.Nat.{le-refl}
 use native.Mathlib.Decide.{ℕ-discrete}
 use lib.ListN.{length, getD, set}
 use lib.Seq.{getD-set-same, getD-set-other}
-use Rattle.roadmap.specs.Format.{junctionCount}
 use Rattle.states.specs.declared.State.{State}
+use Rattle.moves.specs.Trip.{Trip, junctionsIn}
 use Rattle.moves.specs.declared.Run.{Run}
+use Rattle.moves.specs.Runs.{Tied, SoundTrip, RangeIn}
+use Rattle.moves.proofs.Rising.{run-starts}
 use Rattle.states.specs.States.{startOf}
-use Rattle.moves.specs.Trip.{tripOf}
-use Rattle.moves.specs.Runs.{Accepted, InRange, tripIn}
-use Rattle.moves.proofs.Trips.{order-in}
-use Rattle.moves.proofs.Rising.{start-range, run-sound}
 use Rattle.journeys.specs.Journeys.{startIn}
 use Rattle.states.specs.LabelSpace.{labelWords}
 use Rattle.labels.specs.LabelWords.{largestWord, settled, column}
@@ -48,26 +46,26 @@ pub cleared : (ws : List ℕ) {hs ss fs : List ℕ} → length ss ≡ length hs 
 cleared ws {hs} {ss} {fs} spells-long shifts-long heads spells shifts =
     lists-none ws hs ss fs (length hs) refl spells-long shifts-long heads (λ j h. spells j (omega (arith, spells-long))) (λ j h. shifts j (omega (arith, shifts-long)))
 
-module _ (map : List ℕ) (run : Run) (ok : Accepted map run) {start : State} (is : start ≡ startOf (run .order)) where
-  pub start-within : InRange (junctionCount map) (run .order) start
-  start-within = rw is (start-range (junctionCount map) (run .order) (ok .ordered))
+module _ {map : List ℕ} {run : Run} {trip : Trip} (tied : Tied map run trip) (sound : SoundTrip trip) {start : State} (is : start ≡ startOf (run .order)) where
+  pub start-within : RangeIn trip start
+  start-within = rw is (run-starts tied sound)
 
-  in-trip : start ≡ startIn (tripIn map run)
-  in-trip = is ∙ ap startOf (sym (order-in map (run .order)))
+  in-trip : start ≡ startIn trip
+  in-trip = is ∙ ap startOf (sym (tied .order))
 
   -- the start has come in as the first label
-  module _ {ws ws₁ hs ss fs : List ℕ} {u : ℕ} (next : NextIs (tripIn map run) (settled ws 0) start Bound.Nothing u)
+  module _ {ws ws₁ hs ss fs : List ℕ} {u : ℕ} (next : NextIs trip (settled ws 0) start Bound.Nothing u)
       (A : LabelAdded ws ws₁ hs ss fs 0 start 0 u) where
-    pub first-ready : length ws₁ ≡ length ws → Ready map run ws₁ 1
+    pub first-ready : length ws₁ ≡ length ws → Ready trip ws₁ 1
     first-ready long =
-        ready-added (A .added) map run (λ k low high. absurd (omega arith)) long (omega (arith, A .lists .room)) (omega arith) start-within (next .names)
+        ready-added (A .added) trip (λ k low high. absurd (omega arith)) long (omega (arith, A .lists .room)) (omega arith) start-within (next .names)
 
-    loop-next : NextIs (tripIn map run) (startIn (tripIn map run) ∷ []) (startIn (tripIn map run)) Bound.Nothing u
+    loop-next : NextIs trip (startIn trip ∷ []) (startIn trip) Bound.Nothing u
     unfolding settled
-    loop-next = subst (λ (z : State). NextIs (tripIn map run) (z ∷ []) z Bound.Nothing u) in-trip (next-wider (tripIn map run) [] start start Bound.Nothing u next)
+    loop-next = subst (λ (z : State). NextIs trip (z ∷ []) z Bound.Nothing u) in-trip (next-wider trip [] start start Bound.Nothing u next)
 
-    module _ {ws′ : List ℕ} (M : Mended map run ws₁ ws′ 1) where
-      states : settled ws′ 1 ≡ startIn (tripIn map run) ∷ []
+    module _ {ws′ : List ℕ} (M : Mended trip ws₁ ws′ 1) where
+      states : settled ws′ 1 ≡ startIn trip ∷ []
       unfolding settled
       states = added-states ws ws₁ ws′ (A .added) (M .only) ∙ ap (λ (z : State). z ∷ []) in-trip
 
@@ -79,7 +77,7 @@ module _ (map : List ℕ) (run : Run) (ok : Accepted map run) {start : State} (i
       unfolding column
       parents = added-parents ws ws₁ ws′ (A .added) (M .only)
 
-      pub begun : junctionCount map < length hs → Begun map run ws′ hs ss fs
+      pub begun : junctionsIn trip < length hs → Begun trip ws′ hs ss fs
       begun wide =
           record {
             away = λ out. record {
@@ -88,20 +86,16 @@ module _ (map : List ℕ) (run : Run) (ok : Accepted map run) {start : State} (i
               wide = wide;
               ready = M .ready;
               tree = M .tree;
-              loop = rw (states, cursors, parents) (begin (tripIn map run) (run-sound map run ok) u out loop-next);
+              loop = rw (states, cursors, parents) (begin trip sound u out loop-next);
             };
-            home = λ t. rw (states, parents) (begin-found (tripIn map run) (run-sound map run ok) t);
+            home = λ t. rw (states, parents) (begin-found trip sound t);
           }
 
 -- source and target are one junction, or not
-module _ (map : List ℕ) (run : Run) where
-  source-is : startIn (tripIn map run) .junction ≡ run .order .source
-  unfolding tripOf
-  source-is = refl
-
-  pub begins-home : {ws hs ss fs : List ℕ} → run .order .source ≡ run .order .target → Begun map run ws hs ss fs → labelWords * 1 ≤ length ws → EndsFound map run ws 1
+module _ (trip : Trip) where
+  pub begins-home : {ws hs ss fs : List ℕ} → trip .order .source ≡ trip .order .target → Begun trip ws hs ss fs → labelWords * 1 ≤ length ws → EndsFound trip ws 1
   begins-home same begun room =
-      record { answer = startIn (tripIn map run); room = room; ended = begun .home (at-home map run (startIn (tripIn map run)) (source-is ∙ same)) }
+      record { answer = startIn trip; room = room; ended = begun .home (at-home trip (startIn trip) same) }
 
-  pub begins-away : {ws hs ss fs : List ℕ} → (run .order .source ≡ run .order .target → ⊥) → Begun map run ws hs ss fs → Underway map run ws hs ss fs 1
-  begins-away apart begun = begun .away (not-home map run (startIn (tripIn map run)) (λ e. apart (sym source-is ∙ e)))
+  pub begins-away : {ws hs ss fs : List ℕ} → (trip .order .source ≡ trip .order .target → ⊥) → Begun trip ws hs ss fs → Underway trip ws hs ss fs 1
+  begins-away apart begun = begun .away (not-home trip (startIn trip) apart)

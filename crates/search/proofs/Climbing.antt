@@ -7,8 +7,8 @@ use native.Mathlib.Decide.{decLe}
 use lib.ListN.{set}
 use Rattle.booleans.proofs.Tests.{T-true, true-T}
 use Rattle.states.specs.declared.State.{State}
-use Rattle.moves.specs.declared.Run.{Run}
-use Rattle.moves.specs.Runs.{Accepted, tripIn}
+use Rattle.moves.specs.Trip.{Trip}
+use Rattle.moves.specs.Runs.{SoundTrip}
 use Rattle.states.proofs.Compared.{rank-order}
 use Rattle.labels.specs.LabelWords.{labelAt, cursorOf, winnerOf, settled}
 use Rattle.candidates.specs.declared.Bound.{Bound}
@@ -40,48 +40,48 @@ later-key c c′ r r′ small small′ low low′ few later = go (decLe (rankNum
         omega (arith, under, later .number same)
     go (no h) = omega (arith, under)
 
-module _ (map : List ℕ) (run : Run) (ok : Accepted map run) {ws hs ss fs : List ℕ} {n : ℕ} (U : Underway map run ws hs ss fs n) (r : ℕ) (c : State) (won : Chosen map run ws n r c)
-    (ws′ : List ℕ) (v : ℕ) (next : NextIs (tripIn map run) (settled ws n) (labelAt ws r) (Bound.Above c) v) (A : Advanced map run ws ws′ n r v) where
-  leads′ : LeastKey (tripIn map run) ws′ n (winnerOf ws′ 1)
-  leads′ = leads (tripIn map run) ws′ n (U .low) (A .tree)
+module _ (trip : Trip) (sound : SoundTrip trip) {ws hs ss fs : List ℕ} {n : ℕ} (U : Underway trip ws hs ss fs n) (r : ℕ) (c : State) (won : Chosen trip ws n r c)
+    (ws′ : List ℕ) (v : ℕ) (next : NextIs trip (settled ws n) (labelAt ws r) (Bound.Above c) v) (A : Advanced trip ws ws′ n r v) where
+  leads′ : LeastKey trip ws′ n (winnerOf ws′ 1)
+  leads′ = leads trip ws′ n (U .low) (A .tree)
 
   small : Small c
   small =
-      subst Small (sym (won .is)) (result-small map run ok (labelAt ws r) (cursorOf ws r) (U .ready r (won .low) (won .high) .range) (U .ready r (won .low) (won .high) .cursor (won .has)))
+      subst Small (sym (won .is)) (result-small trip sound (labelAt ws r) (cursorOf ws r) (U .ready r (won .low) (won .high) .range) (U .ready r (won .low) (won .high) .cursor (won .has)))
 
-  key-is : keyAt (tripIn map run) ws r ≡ rankNumber c * wordBase + r
-  key-is = key-open (tripIn map run) ws r (won .low) (won .has) ∙ ap (λ (z : State). rankNumber z * wordBase + r) (sym (won .is))
+  key-is : keyAt trip ws r ≡ rankNumber c * wordBase + r
+  key-is = key-open trip ws r (won .low) (won .has) ∙ ap (λ (z : State). rankNumber z * wordBase + r) (sym (won .is))
 
-  module _ (r′ : ℕ) (L′ : LeastKey (tripIn map run) ws′ n r′) (low′ : 1 ≤ r′) (has′ : 1 ≤ cursorOf ws′ r′) where
-    small′ : Small (candidate (tripIn map run) ws′ r′)
+  module _ (r′ : ℕ) (L′ : LeastKey trip ws′ n r′) (low′ : 1 ≤ r′) (has′ : 1 ≤ cursorOf ws′ r′) where
+    small′ : Small (candidate trip ws′ r′)
     small′ =
-        result-small map run ok (labelAt ws′ r′) (cursorOf ws′ r′) (A .ready r′ low′ (L′ .within) .range) (A .ready r′ low′ (L′ .within) .cursor has′)
+        result-small trip sound (labelAt ws′ r′) (cursorOf ws′ r′) (A .ready r′ low′ (L′ .within) .range) (A .ready r′ low′ (L′ .within) .cursor has′)
 
-    winner′ : Winner (tripIn map run) (settled ws n) (set (cursorsOf ws n) (r - 1) v) (r′ - 1)
+    winner′ : Winner trip (settled ws n) (set (cursorsOf ws n) (r - 1) v) (r′ - 1)
     winner′ =
-        subst₂ (λ (l : List State) (k : List ℕ). Winner (tripIn map run) l k (r′ - 1)) (advanced-states A) (advanced-cursors A (won .low) (won .high))
-        (is-winner map run ok ws′ n (A .ready) r′ L′ low′ has′)
+        subst₂ (λ (l : List State) (k : List ℕ). Winner trip l k (r′ - 1)) (advanced-states A) (advanced-cursors A (won .low) (won .high))
+        (is-winner trip sound ws′ n (A .ready) r′ L′ low′ has′)
 
-    candidate′ : candidateOf (tripIn map run) (settled ws n) (set (cursorsOf ws n) (r - 1) v) (r′ - 1) ≡ candidate (tripIn map run) ws′ r′
+    candidate′ : candidateOf trip (settled ws n) (set (cursorsOf ws n) (r - 1) v) (r′ - 1) ≡ candidate trip ws′ r′
     candidate′ =
-        subst₂ (λ (l : List State) (k : List ℕ). candidateOf (tripIn map run) l k (r′ - 1) ≡ candidate (tripIn map run) ws′ r′) (advanced-states A) (advanced-cursors A (won .low) (won .high))
-        (candidate-is (tripIn map run) ws′ n r′ low′ (L′ .within))
+        subst₂ (λ (l : List State) (k : List ℕ). candidateOf trip l k (r′ - 1) ≡ candidate trip ws′ r′) (advanced-states A) (advanced-cursors A (won .low) (won .high))
+        (candidate-is trip ws′ n r′ low′ (L′ .within))
 
-    later′ : Later c (r - 1) (candidate (tripIn map run) ws′ r′) (r′ - 1)
+    later′ : Later c (r - 1) (candidate trip ws′ r′) (r′ - 1)
     later′ =
-        subst₂ (λ (z z′ : State). Later z (r - 1) z′ (r′ - 1)) (loop-candidate map run U r c won) candidate′
-        (covered-later (tripIn map run) (settled ws n) (cursorsOf ws n) (parentsOf ws n) (U .loop) (r - 1) (won .winner) v
-        (subst₂ (λ (s z : State). NextIs (tripIn map run) (settled ws n) s (Bound.Above z) v) (sym (loop-state map run U r c won)) (sym (loop-candidate map run U r c won)) next)
+        subst₂ (λ (z z′ : State). Later z (r - 1) z′ (r′ - 1)) (loop-candidate trip U r c won) candidate′
+        (covered-later trip (settled ws n) (cursorsOf ws n) (parentsOf ws n) (U .loop) (r - 1) (won .winner) v
+        (subst₂ (λ (s z : State). NextIs trip (settled ws n) s (Bound.Above z) v) (sym (loop-state trip U r c won)) (sym (loop-candidate trip U r c won)) next)
         (r′ - 1) winner′)
 
-    higher : keyAt (tripIn map run) ws r < keyAt (tripIn map run) ws′ r′
+    higher : keyAt trip ws r < keyAt trip ws′ r′
     higher =
-        omega (arith, key-is, key-open (tripIn map run) ws′ r′ low′ has′, later-key c (candidate (tripIn map run) ws′ r′) r r′ small small′ (won .low) low′ (U .ready r (won .low) (won .high) .small) later′)
+        omega (arith, key-is, key-open trip ws′ r′ low′ has′, later-key c (candidate trip ws′ r′) r r′ small small′ (won .low) low′ (U .ready r (won .low) (won .high) .small) later′)
 
   -- the root's key is higher than the one that was passed over
-  pub root-rises : keyAt (tripIn map run) ws r < keyAt (tripIn map run) ws′ (winnerOf ws′ 1)
-  root-rises = go (decLe noKey (keyAt (tripIn map run) ws′ (winnerOf ws′ 1)))
+  pub root-rises : keyAt trip ws r < keyAt trip ws′ (winnerOf ws′ 1)
+  root-rises = go (decLe noKey (keyAt trip ws′ (winnerOf ws′ 1)))
     where
-      go : Dec (noKey ≤ keyAt (tripIn map run) ws′ (winnerOf ws′ 1)) → keyAt (tripIn map run) ws r < keyAt (tripIn map run) ws′ (winnerOf ws′ 1)
-      go (yes h) = omega (arith, key-below map run ok ws r (won .low) (U .ready r (won .low) (won .high)) (won .has))
-      go (no h) = let live = key-has map run ok ws′ (winnerOf ws′ 1) (omega arith) in higher (winnerOf ws′ 1) leads′ (live .0) (live .1)
+      go : Dec (noKey ≤ keyAt trip ws′ (winnerOf ws′ 1)) → keyAt trip ws r < keyAt trip ws′ (winnerOf ws′ 1)
+      go (yes h) = omega (arith, key-below trip sound ws r (won .low) (U .ready r (won .low) (won .high)) (won .has))
+      go (no h) = let live = key-has trip sound ws′ (winnerOf ws′ 1) (omega arith) in higher (winnerOf ws′ 1) leads′ (live .0) (live .1)

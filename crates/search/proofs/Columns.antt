@@ -6,7 +6,6 @@ use native.Mathlib.Omega.{arith}
 use native.Mathlib.Decide.{ℕ-discrete}
 use lib.ListN.{length, getD, set, length-set}
 use lib.Seq.{getD-set-same, getD-set-other, ext-getD}
-use Rattle.moves.specs.declared.Run.{Run}
 use Rattle.moves.specs.Trip.{Trip}
 use Rattle.journeys.specs.Journeys.{startIn}
 use Rattle.states.specs.declared.State.{State}
@@ -51,7 +50,7 @@ module _ (trip : Trip) (ws : List ℕ) (n : ℕ) where
         ap (λ x. candidateOf trip (settled ws n) (cursorsOf ws n) x) e ∙ candidate-is (i + 1) (omega arith) (omega arith)
 
 -- A label's cursor has changed, and nothing else but winners.
-module _ {map : List ℕ} {run : Run} {ws ws′ : List ℕ} {n k v : ℕ} (A : Advanced map run ws ws′ n k v) where
+module _ {trip : Trip} {ws ws′ : List ℕ} {n k v : ℕ} (A : Advanced trip ws ws′ n k v) where
   pub advanced-states : settled ws′ n ≡ settled ws n
   advanced-states = A .settled
 

@@ -6,11 +6,9 @@ use Prim.Native.Nat.{ℕ, _+_, _-_, _*_, _≤_, _<_}
 use native.Mathlib.Omega.{arith}
 use lib.ListN.{length, getD, drop, length-append, List·getD-append}
 use borrow.Rule.Slice.PartMut.{midOf, putMid, mid-len, drop-put}
-use Rattle.moves.specs.declared.Run.{Run}
 use Rattle.states.specs.declared.State.{State}
 use Rattle.moves.specs.Trip.{Trip}
-use Rattle.moves.specs.Runs.{Accepted, tripIn}
-use Rattle.moves.proofs.Rising.{run-sound}
+use Rattle.moves.specs.Runs.{SoundTrip}
 use Rattle.states.specs.LabelSpace.{labelsThatFit, labelWords}
 use Rattle.journeys.proofs.Labels.{label-some}
 use Rattle.labels.specs.LabelWords.{parentField, previousField, at, Same, settled}
@@ -22,9 +20,9 @@ use Rattle.search.specs.Turns.{EndsFound, OutcomeSays, found, exhausted,
 use Rattle.search.specs.Searched.{Searched}
 
 -- no label fits, and the start is one
-pub none-fits : (map : List ℕ) (run : Run) → Accepted map run → (ws : List ℕ) → labelsThatFit (length ws) ≡ 0 → Searched map run ws ws Outcome.Full
-none-fits map run ok ws shut =
-    record { ends = full (omega (arith, shut, label-some (tripIn map run) (run-sound map run ok))); beyond = refl }
+pub none-fits : (trip : Trip) → SoundTrip trip → (ws : List ℕ) → labelsThatFit (length ws) ≡ 0 → Searched trip ws ws Outcome.Full
+none-fits trip sound ws shut =
+    record { ends = full (omega (arith, shut, label-some trip sound)); beyond = refl }
 
 -- Labels that stand in the part stand in the whole.
 module _ (part rest : List ℕ) (n : ℕ) (room : labelWords * n ≤ length part) where
@@ -45,28 +43,28 @@ module _ (part rest : List ℕ) (n : ℕ) (room : labelWords * n ≤ length part
   part-ended : (trip : Trip) (answer : Option State) → Ended trip answer (settled part n) (parentsOf part n) → Ended trip answer (settled (part ++ rest) n) (parentsOf (part ++ rest) n)
   part-ended trip answer ended = subst₂ (λ (L : List State) (P : List ℕ). Ended trip answer L P) (sym part-states) (sym part-parents) ended
 
-part-found : (part rest : List ℕ) (n : ℕ) (map : List ℕ) (run : Run) → EndsFound map run part n → EndsFound map run (part ++ rest) n
-part-found part rest n map run ends =
+part-found : (part rest : List ℕ) (n : ℕ) (trip : Trip) → EndsFound trip part n → EndsFound trip (part ++ rest) n
+part-found part rest n trip ends =
     record {
       answer = ends .answer;
       room = omega (arith, ends .room, length-append part rest);
-      ended = part-ended part rest n (ends .room) (tripIn map run) (some (ends .answer)) (ends .ended);
+      ended = part-ended part rest n (ends .room) trip (some (ends .answer)) (ends .ended);
     }
 
 -- how the search ends in the part it ends in the whole
-part-ends : (map : List ℕ) (run : Run) (fit : ℕ) (part rest : List ℕ) (outcome : Outcome) → labelWords * fit ≤ length part
-    → OutcomeSays map run fit part outcome → OutcomeSays map run fit (part ++ rest) outcome
-part-ends map run fit part rest outcome room (found ends few) =
-    found (part-found part rest _ map run ends) few
-part-ends map run fit part rest outcome room (exhausted ended few) =
-    exhausted (part-ended part rest _ (omega (arith, room, few)) (tripIn map run) none ended) few
-part-ends map run fit part rest outcome room (full above) = full above
+part-ends : (trip : Trip) (fit : ℕ) (part rest : List ℕ) (outcome : Outcome) → labelWords * fit ≤ length part
+    → OutcomeSays trip fit part outcome → OutcomeSays trip fit (part ++ rest) outcome
+part-ends trip fit part rest outcome room (found ends few) =
+    found (part-found part rest _ trip ends) few
+part-ends trip fit part rest outcome room (exhausted ended few) =
+    exhausted (part-ended part rest _ (omega (arith, room, few)) trip none ended) few
+part-ends trip fit part rest outcome room (full above) = full above
 
-pub part-searched : (map : List ℕ) (run : Run) (ws part : List ℕ) (fit : ℕ) {outcome : Outcome} → fit ≡ labelsThatFit (length ws)
-    → length part ≡ length (midOf 0 (labelWords * fit - 0) ws) → OutcomeSays map run fit part outcome → Searched map run ws (putMid 0 (labelWords * fit - 0) ws part) outcome
-part-searched map run ws part fit {outcome} e kept says =
+pub part-searched : (trip : Trip) (ws part : List ℕ) (fit : ℕ) {outcome : Outcome} → fit ≡ labelsThatFit (length ws)
+    → length part ≡ length (midOf 0 (labelWords * fit - 0) ws) → OutcomeSays trip fit part outcome → Searched trip ws (putMid 0 (labelWords * fit - 0) ws part) outcome
+part-searched trip ws part fit {outcome} e kept says =
     let long : length part ≡ labelWords * fit - 0 = kept ∙ mid-len 0 (labelWords * fit) ws (omega (arith, e)) in
     record {
-      ends = subst (λ (k : ℕ). OutcomeSays map run k (putMid 0 (labelWords * fit - 0) ws part) outcome) e (part-ends map run fit part _ outcome (omega (arith, long)) says);
+      ends = subst (λ (k : ℕ). OutcomeSays trip k (putMid 0 (labelWords * fit - 0) ws part) outcome) e (part-ends trip fit part _ outcome (omega (arith, long)) says);
       beyond = subst (λ (k : ℕ). drop (labelWords * k) (putMid 0 (labelWords * fit - 0) ws part) ≡ drop (labelWords * k) ws) e (drop-put 0 (labelWords * fit) ws part (omega arith) (omega (arith, e)) long);
     }

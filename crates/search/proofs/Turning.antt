@@ -7,12 +7,9 @@ use native.Mathlib.Nat.{le-refl}
 use native.Mathlib.Decide.{decLe}
 use lib.Dec.{T}
 use lib.ListN.{length, set}
-use Rattle.roadmap.specs.Format.{junctionCount}
 use Rattle.states.specs.declared.State.{State}
-use Rattle.moves.specs.declared.Run.{Run}
 use Rattle.moves.specs.Trip.{Trip}
-use Rattle.moves.specs.Runs.{Accepted, InRange, tripIn}
-use Rattle.moves.proofs.Rising.{SoundTrip}
+use Rattle.moves.specs.Runs.{SoundTrip, RangeIn}
 use Rattle.theory.specs.States.{Covered}
 use Rattle.journeys.specs.Journeys.{atTarget}
 use Rattle.states.specs.States.{covers}
@@ -45,20 +42,20 @@ next-wider trip L c s bound v next =
     }
 
 -- the key below which the search is, told otherwise
-pub onward-as : {map : List ℕ} {run : Run} {k k′ : ℕ} {ws hs ss fs : List ℕ} {n : ℕ} → k ≡ k′ → Onward map run k ws hs ss fs n → Onward map run k′ ws hs ss fs n
-onward-as {map} {run} {ws = ws} e O = record { underway = O .underway; higher = subst (λ (k : ℕ). k < keyAt (tripIn map run) ws (winnerOf ws 1)) e (O .higher) }
+pub onward-as : {trip : Trip} {k k′ : ℕ} {ws hs ss fs : List ℕ} {n : ℕ} → k ≡ k′ → Onward trip k ws hs ss fs n → Onward trip k′ ws hs ss fs n
+onward-as {trip} {ws = ws} e O = record { underway = O .underway; higher = subst (λ (k : ℕ). k < keyAt trip ws (winnerOf ws 1)) e (O .higher) }
 
-module _ (map : List ℕ) (run : Run) {ws hs ss fs : List ℕ} {n : ℕ} (U : Underway map run ws hs ss fs n) (r : ℕ) (c : State) (won : Chosen map run ws n r c) where
+module _ (trip : Trip) {ws hs ss fs : List ℕ} {n : ℕ} (U : Underway trip ws hs ss fs n) (r : ℕ) (c : State) (won : Chosen trip ws n r c) where
   -- the loop's candidate is c, and its label the one in the words
-  pub loop-candidate : candidateOf (tripIn map run) (settled ws n) (cursorsOf ws n) (r - 1) ≡ c
-  loop-candidate = candidate-is (tripIn map run) ws n r (won .low) (won .high) ∙ sym (won .is)
+  pub loop-candidate : candidateOf trip (settled ws n) (cursorsOf ws n) (r - 1) ≡ c
+  loop-candidate = candidate-is trip ws n r (won .low) (won .high) ∙ sym (won .is)
 
-  pub loop-state : stateAt (tripIn map run) (settled ws n) (r - 1) ≡ labelAt ws r
-  loop-state = state-is (tripIn map run) ws n r (won .low) (won .high)
+  pub loop-state : stateAt trip (settled ws n) (r - 1) ≡ labelAt ws r
+  loop-state = state-is trip ws n r (won .low) (won .high)
 
   -- the candidate is covered, and the label's cursor has moved on
   pub passed-over : (ws′ : List ℕ) (v : ℕ) → Covered covers (settled ws n) c
-      → NextIs (tripIn map run) (settled ws n) (labelAt ws r) (Bound.Above c) v → Advanced map run ws ws′ n r v → Underway map run ws′ hs ss fs n
+      → NextIs trip (settled ws n) (labelAt ws r) (Bound.Above c) v → Advanced trip ws ws′ n r v → Underway trip ws′ hs ss fs n
   passed-over ws′ v cov next A =
       record {
         low = U .low;
@@ -69,22 +66,22 @@ module _ (map : List ℕ) (run : Run) {ws hs ss fs : List ℕ} {n : ℕ} (U : Un
         loop = rw (advanced-states A, advanced-parents A, advanced-cursors A (won .low) (won .high)) turned;
       }
     where
-      turned : Searching (tripIn map run) (settled ws n) (set (cursorsOf ws n) (r - 1) v) (parentsOf ws n)
+      turned : Searching trip (settled ws n) (set (cursorsOf ws n) (r - 1) v) (parentsOf ws n)
       turned =
-          turn-covered (tripIn map run) (settled ws n) (cursorsOf ws n) (parentsOf ws n) (U .loop) (r - 1) (won .winner) v
+          turn-covered trip (settled ws n) (cursorsOf ws n) (parentsOf ws n) (U .loop) (r - 1) (won .winner) v
           (subst (λ (z : State). Covered covers (settled ws n) z) (sym loop-candidate) cov)
-          (subst₂ (λ (s z : State). NextIs (tripIn map run) (settled ws n) s (Bound.Above z) v) (sym loop-state) (sym loop-candidate) next)
+          (subst₂ (λ (s z : State). NextIs trip (settled ws n) s (Bound.Above z) v) (sym loop-state) (sym loop-candidate) next)
 
   -- the candidate is not covered and not at target: it is the next label
-  module _ (sound : SoundTrip (tripIn map run)) (new : ¬ Covered covers (settled ws n) c) (out : ¬ T (atTarget (tripIn map run) c)) (ws₁ ws′ hs′ ss′ fs′ : List ℕ) (u : ℕ)
-      (next : NextIs (tripIn map run) (settled ws n) c Bound.Nothing u) (A : LabelAdded ws ws₁ hs′ ss′ fs′ n c r u)
-      (M : Mended map run ws₁ ws′ (n + 1)) where
+  module _ (sound : SoundTrip trip) (new : ¬ Covered covers (settled ws n) c) (out : ¬ T (atTarget trip c)) (ws₁ ws′ hs′ ss′ fs′ : List ℕ) (u : ℕ)
+      (next : NextIs trip (settled ws n) c Bound.Nothing u) (A : LabelAdded ws ws₁ hs′ ss′ fs′ n c r u)
+      (M : Mended trip ws₁ ws′ (n + 1)) where
     abbrev cand : State
-    cand = candidateOf (tripIn map run) (settled ws n) (cursorsOf ws n) (r - 1)
+    cand = candidateOf trip (settled ws n) (cursorsOf ws n) (r - 1)
 
-    loop-next : NextIs (tripIn map run) (settled ws n ++ cand ∷ []) cand Bound.Nothing u
+    loop-next : NextIs trip (settled ws n ++ cand ∷ []) cand Bound.Nothing u
     loop-next =
-        subst (λ (z : State). NextIs (tripIn map run) (settled ws n ++ z ∷ []) z Bound.Nothing u) (sym loop-candidate) (next-wider (tripIn map run) (settled ws n) c c Bound.Nothing u next)
+        subst (λ (z : State). NextIs trip (settled ws n ++ z ∷ []) z Bound.Nothing u) (sym loop-candidate) (next-wider trip (settled ws n) c c Bound.Nothing u next)
 
     states : settled ws′ (n + 1) ≡ settled ws n ++ c ∷ []
     states = added-states ws ws₁ ws′ (A .added) (M .only)
@@ -92,15 +89,15 @@ module _ (map : List ℕ) (run : Run) {ws hs ss fs : List ℕ} {n : ℕ} (U : Un
     cursors : cursorsOf ws′ (n + 1) ≡ cursorsOf ws n ++ u ∷ []
     cursors = added-cursors ws ws₁ ws′ (A .added) (M .only)
 
-    turned : Searching (tripIn map run) (settled ws n ++ c ∷ []) (cursorsOf ws n ++ u ∷ []) (parentsOf ws n ++ r ∷ [])
+    turned : Searching trip (settled ws n ++ c ∷ []) (cursorsOf ws n ++ u ∷ []) (parentsOf ws n ++ r ∷ [])
     turned =
         let back : r - 1 + 1 ≡ r = omega (arith, won .low) in
-        subst₂ (λ (z : State) (p : ℕ). Searching (tripIn map run) (settled ws n ++ z ∷ []) (cursorsOf ws n ++ u ∷ []) (parentsOf ws n ++ p ∷ [])) loop-candidate back
-        (turn-settled (tripIn map run) sound (settled ws n) (cursorsOf ws n) (parentsOf ws n) (U .loop) (r - 1) (won .winner) u loop-next
+        subst₂ (λ (z : State) (p : ℕ). Searching trip (settled ws n ++ z ∷ []) (cursorsOf ws n ++ u ∷ []) (parentsOf ws n ++ p ∷ [])) loop-candidate back
+        (turn-settled trip sound (settled ws n) (cursorsOf ws n) (parentsOf ws n) (U .loop) (r - 1) (won .winner) u loop-next
         (subst (λ (z : State). ¬ Covered covers (settled ws n) z) (sym loop-candidate) new)
-        (subst (λ (z : State). ¬ T (atTarget (tripIn map run) z)) (sym loop-candidate) out))
+        (subst (λ (z : State). ¬ T (atTarget trip z)) (sym loop-candidate) out))
 
-    pub settles : length hs′ ≡ length hs → Underway map run ws′ hs′ ss′ fs′ (n + 1)
+    pub settles : length hs′ ≡ length hs → Underway trip ws′ hs′ ss′ fs′ (n + 1)
     settles wide =
         record {
           low = omega (arith, U .low);
@@ -113,7 +110,7 @@ module _ (map : List ℕ) (run : Run) {ws hs ss fs : List ℕ} {n : ℕ} (U : Un
 
     -- which covers it now
     pub settled-now : Covered covers (settled ws′ (n + 1)) c
-    settled-now = rw states (c, Memᴰ·append-right (settled ws n) (List·Memᴰ·head refl), laws (tripIn map run) sound .cov-refl c)
+    settled-now = rw states (c, Memᴰ·append-right (settled ws n) (List·Memᴰ·head refl), laws trip sound .cov-refl c)
 
     same-cursor : cursorOf ws′ r ≡ cursorOf ws r
     same-cursor =
@@ -125,37 +122,37 @@ module _ (map : List ℕ) (run : Run) {ws hs ss fs : List ℕ} {n : ℕ} (U : Un
         ∙ same-label ws ws₁ n (kept-labels ws ws₁ n (A .added .kept)) r (won .low) (won .high)
 
     -- and its parent's candidate is the lowest still
-    pub still-chosen : Chosen map run ws′ (n + 1) r c
+    pub still-chosen : Chosen trip ws′ (n + 1) r c
     still-chosen =
         record {
           low = won .low;
           high = omega (arith, won .high);
           has = rw same-cursor (won .has);
-          is = subst₂ (λ (l : State) (k : ℕ). c ≡ resultAt (tripIn map run) l k) (sym label-kept) (sym same-cursor) (won .is);
+          is = subst₂ (λ (l : State) (k : ℕ). c ≡ resultAt trip l k) (sym label-kept) (sym same-cursor) (won .is);
           winner = rw (states, cursors)
-              (subst (λ (z : State). Winner (tripIn map run) (settled ws n ++ z ∷ []) (cursorsOf ws n ++ u ∷ []) (r - 1)) loop-candidate
-              (settled-winner (tripIn map run) sound (settled ws n) (cursorsOf ws n) (parentsOf ws n) (U .loop) (r - 1) (won .winner) u loop-next));
+              (subst (λ (z : State). Winner trip (settled ws n ++ z ∷ []) (cursorsOf ws n ++ u ∷ []) (r - 1)) loop-candidate
+              (settled-winner trip sound (settled ws n) (cursorsOf ws n) (parentsOf ws n) (U .loop) (r - 1) (won .winner) u loop-next));
         }
 
     -- its parent's key is as it was
-    pub key-same : keyAt (tripIn map run) ws′ r ≡ keyAt (tripIn map run) ws r
-    key-same = key-kept ws₁ ws′ (M .only) (tripIn map run) r ∙ key-added (A .added) (tripIn map run) r (won .high)
+    pub key-same : keyAt trip ws′ r ≡ keyAt trip ws r
+    key-same = key-kept ws₁ ws′ (M .only) trip r ∙ key-added (A .added) trip r (won .high)
 
   -- a candidate is in range
-  pub chosen-range : Accepted map run → InRange (junctionCount map) (run .order) c
-  chosen-range ok =
+  pub chosen-range : SoundTrip trip → RangeIn trip c
+  chosen-range sound =
       let S = U .ready r (won .low) (won .high) in
-      subst (InRange (junctionCount map) (run .order)) (sym (won .is)) (result-range map run ok (labelAt ws r) (cursorOf ws r) (S .range) (S .cursor (won .has)))
+      subst (RangeIn trip) (sym (won .is)) (result-range trip sound (labelAt ws r) (cursorOf ws r) (S .range) (S .cursor (won .has)))
 
   -- once the label is in, all labels are sound
-  pub ready-now : Accepted map run → (ws₁ hs′ ss′ fs′ : List ℕ) (u : ℕ) → n + 1 < 4294967296 → NextIs (tripIn map run) (settled ws n) c Bound.Nothing u
-      → LabelAdded ws ws₁ hs′ ss′ fs′ n c r u → Ready map run ws₁ (n + 1)
-  ready-now ok ws₁ hs′ ss′ fs′ u few next A m low high = go (decLe m n)
+  pub ready-now : SoundTrip trip → (ws₁ hs′ ss′ fs′ : List ℕ) (u : ℕ) → n + 1 < 4294967296 → NextIs trip (settled ws n) c Bound.Nothing u
+      → LabelAdded ws ws₁ hs′ ss′ fs′ n c r u → Ready trip ws₁ (n + 1)
+  ready-now sound ws₁ hs′ ss′ fs′ u few next A m low high = go (decLe m n)
     where
       room : labelWords * (n + 1) ≤ length ws₁
       room = A .lists .room
 
-      go : Dec (m ≤ n) → Sound map run ws₁ m
+      go : Dec (m ≤ n) → Sound trip ws₁ m
       go (yes h) =
           let S = U .ready m low h in
           let same = same-label ws ws₁ n (kept-labels ws ws₁ n (A .added .kept)) m low h in
@@ -163,14 +160,14 @@ module _ (map : List ℕ) (run : Run) {ws hs ss fs : List ℕ} {n : ℕ} (U : Un
           record {
             room = omega (arith, room);
             small = S .small;
-            range = subst (λ (l : State). InRange (junctionCount map) (run .order) l) (sym same) (S .range);
-            cursor = subst₂ (λ (l : State) (x : ℕ). Cursor (tripIn map run) l x) (sym same) (sym cursor-same) (S .cursor);
+            range = subst (RangeIn trip) (sym same) (S .range);
+            cursor = subst₂ (λ (l : State) (x : ℕ). Cursor trip l x) (sym same) (sym cursor-same) (S .cursor);
           }
       go (no h) =
           let e : m ≡ n + 1 = omega arith in
-          subst (Sound map run ws₁) (sym e) (record {
+          subst (Sound trip ws₁) (sym e) (record {
             room = room;
             small = few;
-            range = subst (λ (l : State). InRange (junctionCount map) (run .order) l) (sym (A .added .is-label)) (chosen-range ok);
-            cursor = subst₂ (λ (l : State) (x : ℕ). Cursor (tripIn map run) l x) (sym (A .added .is-label)) (sym (A .added .is-cursor)) (next .names);
+            range = subst (RangeIn trip) (sym (A .added .is-label)) (chosen-range sound);
+            cursor = subst₂ (λ (l : State) (x : ℕ). Cursor trip l x) (sym (A .added .is-label)) (sym (A .added .is-cursor)) (next .names);
           })

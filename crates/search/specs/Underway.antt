@@ -3,10 +3,8 @@ use mathlib.Core.Path.{_≡_}
 use mathlib.Core.List.{List}
 use Prim.Native.Nat.{ℕ, _-_, _≤_, _<_}
 use lib.ListN.{length}
-use Rattle.roadmap.specs.Format.{junctionCount}
-use Rattle.moves.specs.declared.Run.{Run}
 use Rattle.states.specs.declared.State.{State}
-use Rattle.moves.specs.Runs.{tripIn}
+use Rattle.moves.specs.Trip.{Trip, junctionsIn}
 use Rattle.labels.specs.LabelWords.{cursorField, parentField, labelAt, cursorOf, winnerOf, column, settled}
 use Rattle.labels.specs.Lists.{Lists}
 use Rattle.labels.specs.Tree.{Tree}
@@ -21,26 +19,26 @@ cursorsOf ws n = column cursorField ws n
 abbrev pub parentsOf : List ℕ → ℕ → List ℕ
 parentsOf ws n = column parentField ws n
 
-pub record Underway (map : List ℕ) (run : Run) (ws hs ss fs : List ℕ) (n : ℕ) : Type 0 where
+pub record Underway (trip : Trip) (ws hs ss fs : List ℕ) (n : ℕ) : Type 0 where
   pub low : 1 ≤ n
   -- the labels of each junction are linked
   pub lists : Lists ws hs ss fs n
-  pub wide : junctionCount map < length hs
+  pub wide : junctionsIn trip < length hs
   -- the lowest-ranked candidate is at the root
-  pub ready : Ready map run ws n
-  pub tree : Tree (keyAt (tripIn map run) ws) ws n
+  pub ready : Ready trip ws n
+  pub tree : Tree (keyAt trip ws) ws n
   -- labels, cursors and parents are those of the loop
-  pub loop : Searching (tripIn map run) (settled ws n) (cursorsOf ws n) (parentsOf ws n)
+  pub loop : Searching trip (settled ws n) (cursorsOf ws n) (parentsOf ws n)
 
 -- label r has the lowest-ranked candidate, c, and is the first that has it
-pub record Chosen (map : List ℕ) (run : Run) (ws : List ℕ) (n r : ℕ) (c : State) : Type 0 where
+pub record Chosen (trip : Trip) (ws : List ℕ) (n r : ℕ) (c : State) : Type 0 where
   pub low : 1 ≤ r
   pub high : r ≤ n
   pub has : 1 ≤ cursorOf ws r
-  pub is : c ≡ resultAt (tripIn map run) (labelAt ws r) (cursorOf ws r)
-  pub winner : Winner (tripIn map run) (settled ws n) (cursorsOf ws n) (r - 1)
+  pub is : c ≡ resultAt trip (labelAt ws r) (cursorOf ws r)
+  pub winner : Winner trip (settled ws n) (cursorsOf ws n) (r - 1)
 
 -- the search goes on with n labels, and its lowest candidate's key is above the one given
-pub record Onward (map : List ℕ) (run : Run) (key : ℕ) (ws hs ss fs : List ℕ) (n : ℕ) : Type 0 where
-  pub underway : Underway map run ws hs ss fs n
-  pub higher : key < keyAt (tripIn map run) ws (winnerOf ws 1)
+pub record Onward (trip : Trip) (key : ℕ) (ws hs ss fs : List ℕ) (n : ℕ) : Type 0 where
+  pub underway : Underway trip ws hs ss fs n
+  pub higher : key < keyAt trip ws (winnerOf ws 1)

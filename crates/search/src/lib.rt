@@ -4,7 +4,7 @@ ghost use mathlib.Core.List.{List};
 ghost use Prim.Native.Nat.{ℕ, _+_, _*_, _<_, _≤_};
 ghost use lib.Dec.{T};
 ghost use lib.ListN.{length};
-ghost use Rattle.roadmap.specs.Format.{junctionCount};
+ghost use Rattle.moves.specs.Trip.{junctionsIn};
 ghost use Rattle.moves.specs.Runs.{Accepted, tripIn};
 ghost use Rattle.theory.specs.States.{Covered};
 ghost use Rattle.journeys.specs.Journeys.{atTarget};
@@ -45,7 +45,7 @@ pub enum Turn {
 // The candidate of label w.
 fn candidate_at(map: &[u8], run: Run, words: &[u32], w: usize) -> State
     requires { ⌜ Accepted (now map) run ⌝ }
-    requires { ⌜ (1 ≤ w) × Sound (now map) run (now words) w × (1 ≤ cursorOf (now words) w) ⌝ }
+    requires { ⌜ (1 ≤ w) × Sound (tripIn (now map) run) (now words) w × (1 ≤ cursorOf (now words) w) ⌝ }
     ensures { λ r. ⌜ r ≡ resultAt (tripIn (now (map .entry)) run) (labelAt (now (words .entry)) w) (cursorOf (now (words .entry)) w) ⌝ }
 {
     let state = labels::read_label(words, w);
@@ -66,10 +66,10 @@ fn pass_over(
     candidate: State,
 )
     requires { ⌜ Accepted (now map) run ⌝ }
-    requires { ⌜ Underway (now map) run (now words) (now heads) (now spells) (now shifts) n ⌝ }
-    requires { ⌜ Chosen (now map) run (now words) n w candidate ⌝ }
+    requires { ⌜ Underway (tripIn (now map) run) (now words) (now heads) (now spells) (now shifts) n ⌝ }
+    requires { ⌜ Chosen (tripIn (now map) run) (now words) n w candidate ⌝ }
     requires { ⌜ Covered covers (settled (now words) n) candidate ⌝ }
-    ensures { λ _. ⌜ Onward (now (map .entry)) run (keyAt (tripIn (now (map .entry)) run) (now (words .entry)) w) (now (words .exit)) (now (heads .entry)) (now (spells .entry)) (now (shifts .entry)) n ⌝ }
+    ensures { λ _. ⌜ Onward (tripIn (now (map .entry)) run) (keyAt (tripIn (now (map .entry)) run) (now (words .entry)) w) (now (words .exit)) (now (heads .entry)) (now (spells .entry)) (now (shifts .entry)) n ⌝ }
 {
     let state = labels::read_label(words, w);
     let bound = Bound::Above(candidate);
@@ -90,11 +90,11 @@ fn settle_label(
     candidate: State,
 )
     requires { ⌜ Accepted (now map) run ⌝ }
-    requires { ⌜ Underway (now map) run (now words) (now heads) (now spells) (now shifts) n ⌝ }
-    requires { ⌜ Chosen (now map) run (now words) n w candidate ⌝ }
+    requires { ⌜ Underway (tripIn (now map) run) (now words) (now heads) (now spells) (now shifts) n ⌝ }
+    requires { ⌜ Chosen (tripIn (now map) run) (now words) n w candidate ⌝ }
     requires { ⌜ (Covered covers (settled (now words) n) candidate → ⊥) × (T (atTarget (tripIn (now map) run) candidate) → ⊥) ⌝ }
     requires { ⌜ (n + 1 < 4294967296) × (labelWords * (n + 1) ≤ length (now words)) ⌝ }
-    ensures { λ _. ⌜ Onward (now (map .entry)) run (keyAt (tripIn (now (map .entry)) run) (now (words .entry)) w) (now (words .exit)) (now (heads .exit)) (now (spells .exit)) (now (shifts .exit)) (n + 1) ⌝ }
+    ensures { λ _. ⌜ Onward (tripIn (now (map .entry)) run) (keyAt (tripIn (now (map .entry)) run) (now (words .entry)) w) (now (words .exit)) (now (heads .exit)) (now (spells .exit)) (now (shifts .exit)) (n + 1) ⌝ }
 {
     let next = candidates::next_candidate(
         map,
@@ -143,11 +143,11 @@ fn settle(
     candidate: State,
 ) -> Turn
     requires { ⌜ Accepted (now map) run ⌝ }
-    requires { ⌜ Underway (now map) run (now words) (now heads) (now spells) (now shifts) n ⌝ }
-    requires { ⌜ Chosen (now map) run (now words) n w candidate ⌝ }
+    requires { ⌜ Underway (tripIn (now map) run) (now words) (now heads) (now spells) (now shifts) n ⌝ }
+    requires { ⌜ Chosen (tripIn (now map) run) (now words) n w candidate ⌝ }
     requires { ⌜ (Covered covers (settled (now words) n) candidate → ⊥) ⌝ }
     requires { ⌜ (n ≤ fit) × (fit ≤ mostLabels) × (labelWords * fit ≤ length (now words)) ⌝ }
-    ensures { λ r. ⌜ TurnSays (now (map .entry)) run fit (keyAt (tripIn (now (map .entry)) run) (now (words .entry)) w) n (now (words .exit)) (now (heads .exit)) (now (spells .exit)) (now (shifts .exit)) r ⌝ }
+    ensures { λ r. ⌜ TurnSays (tripIn (now (map .entry)) run) fit (keyAt (tripIn (now (map .entry)) run) (now (words .entry)) w) n (now (words .exit)) (now (heads .exit)) (now (spells .exit)) (now (shifts .exit)) r ⌝ }
 {
     if n == fit {
         return Turn::Full;
@@ -173,10 +173,10 @@ fn offer(
     w: usize,
 ) -> Turn
     requires { ⌜ Accepted (now map) run ⌝ }
-    requires { ⌜ Underway (now map) run (now words) (now heads) (now spells) (now shifts) n ⌝ }
+    requires { ⌜ Underway (tripIn (now map) run) (now words) (now heads) (now spells) (now shifts) n ⌝ }
     requires { ⌜ (1 ≤ w) × LeastKey (tripIn (now map) run) (now words) n w × (1 ≤ cursorOf (now words) w) ⌝ }
     requires { ⌜ (n ≤ fit) × (fit ≤ mostLabels) × (labelWords * fit ≤ length (now words)) ⌝ }
-    ensures { λ r. ⌜ TurnSays (now (map .entry)) run fit (keyAt (tripIn (now (map .entry)) run) (now (words .entry)) w) n (now (words .exit)) (now (heads .exit)) (now (spells .exit)) (now (shifts .exit)) r ⌝ }
+    ensures { λ r. ⌜ TurnSays (tripIn (now (map .entry)) run) fit (keyAt (tripIn (now (map .entry)) run) (now (words .entry)) w) n (now (words .exit)) (now (heads .exit)) (now (spells .exit)) (now (shifts .exit)) r ⌝ }
 {
     let candidate = candidate_at(map, run, words, w);
     if labels::covered(words, heads, spells, shifts, n, candidate) {
@@ -198,9 +198,9 @@ fn take_turn(
     n: usize,
 ) -> Turn
     requires { ⌜ Accepted (now map) run ⌝ }
-    requires { ⌜ Underway (now map) run (now words) (now heads) (now spells) (now shifts) n ⌝ }
+    requires { ⌜ Underway (tripIn (now map) run) (now words) (now heads) (now spells) (now shifts) n ⌝ }
     requires { ⌜ (n ≤ fit) × (fit ≤ mostLabels) × (labelWords * fit ≤ length (now words)) ⌝ }
-    ensures { λ r. ⌜ TurnSays (now (map .entry)) run fit (keyAt (tripIn (now (map .entry)) run) (now (words .entry)) (winnerOf (now (words .entry)) 1)) n (now (words .exit)) (now (heads .exit)) (now (spells .exit)) (now (shifts .exit)) r ⌝ }
+    ensures { λ r. ⌜ TurnSays (tripIn (now (map .entry)) run) fit (keyAt (tripIn (now (map .entry)) run) (now (words .entry)) (winnerOf (now (words .entry)) 1)) n (now (words .exit)) (now (heads .exit)) (now (spells .exit)) (now (shifts .exit)) r ⌝ }
 {
     let w = winners::leading(words, n);
     if w == 0 {
@@ -223,9 +223,9 @@ fn settle_all(
     fit: usize,
 ) -> Outcome
     requires { ⌜ Accepted (now map) run ⌝ }
-    requires { ⌜ Underway (now map) run (now words) (now heads) (now spells) (now shifts) 1 ⌝ }
+    requires { ⌜ Underway (tripIn (now map) run) (now words) (now heads) (now spells) (now shifts) 1 ⌝ }
     requires { ⌜ (1 ≤ fit) × (fit ≤ mostLabels) × (labelWords * fit ≤ length (now words)) ⌝ }
-    ensures { λ r. ⌜ OutcomeSays (now (map .entry)) run fit (now (words .exit)) r ⌝ }
+    ensures { λ r. ⌜ OutcomeSays (tripIn (now (map .entry)) run) fit (now (words .exit)) r ⌝ }
 {
     let mut n: usize = 1;
     loop {
@@ -274,8 +274,8 @@ fn begin(
 )
     requires { ⌜ Accepted (now map) run ⌝ }
     requires { ⌜ Lists (now words) (now heads) (now spells) (now shifts) 0 ⌝ }
-    requires { ⌜ (junctionCount (now map) < length (now heads)) × (labelWords ≤ length (now words)) ⌝ }
-    ensures { λ _. ⌜ Begun (now (map .entry)) run (now (words .exit)) (now (heads .exit)) (now (spells .exit)) (now (shifts .exit)) ⌝ }
+    requires { ⌜ (junctionsIn (tripIn (now map) run) < length (now heads)) × (labelWords ≤ length (now words)) ⌝ }
+    ensures { λ _. ⌜ Begun (tripIn (now (map .entry)) run) (now (words .exit)) (now (heads .exit)) (now (spells .exit)) (now (shifts .exit)) ⌝ }
 {
     let order = run.order;
     let start = states::start_of(order);
@@ -299,7 +299,7 @@ fn begin(
 fn search_labels(map: &[u8], run: Run, words: &mut [u32], fit: usize) -> Outcome
     requires { ⌜ Accepted (now map) run ⌝ }
     requires { ⌜ (1 ≤ fit) × (fit ≤ mostLabels) × (labelWords * fit ≤ length (now words)) ⌝ }
-    ensures { λ r. ⌜ OutcomeSays (now (map .entry)) run fit (now (words .exit)) r ⌝ }
+    ensures { λ r. ⌜ OutcomeSays (tripIn (now (map .entry)) run) fit (now (words .exit)) r ⌝ }
 {
     let mut heads = [0u32; Sizes::JUNCTION_ENTRIES];
     let mut spells = [0u32; Sizes::JUNCTION_ENTRIES];
@@ -315,7 +315,7 @@ fn search_labels(map: &[u8], run: Run, words: &mut [u32], fit: usize) -> Outcome
 // The search of an accepted run in lent words: only the labels that fit are touched.
 pub fn search(map: &[u8], run: Run, words: &mut [u32]) -> Outcome
     requires { ⌜ Accepted (now map) run ⌝ }
-    ensures { λ r. ⌜ Searched (now (map .entry)) run (now (words .entry)) (now (words .exit)) r ⌝ }
+    ensures { λ r. ⌜ Searched (tripIn (now (map .entry)) run) (now (words .entry)) (now (words .exit)) r ⌝ }
 {
     let fit = states::labels_that_fit(words.len());
     if fit == 0 {

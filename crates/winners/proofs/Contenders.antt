@@ -7,10 +7,9 @@ use Prim.Native.Nat.{ℕ, _+_, _*_, _≤_, _<_}
 use native.Mathlib.Omega.{arith}
 use native.Mathlib.Nat.{le-refl}
 use lib.ListN.{set}
-use Rattle.moves.specs.declared.Run.{Run}
 use Rattle.states.specs.declared.State.{State}
 use Rattle.moves.specs.Trip.{Trip}
-use Rattle.moves.specs.Runs.{Accepted, tripIn}
+use Rattle.moves.specs.Runs.{SoundTrip}
 use Rattle.states.specs.States.{ranksNoHigher}
 use Rattle.states.specs.RankNumber.{wordBase, Small, rankNumber}
 use Rattle.labels.specs.LabelWords.{winnerField, at, labelAt, cursorOf}
@@ -91,19 +90,19 @@ module _ (trip : Trip) (ws : List ℕ) (k : ℕ) (c : Contender) (S : Shut k c) 
       }
 
 pub named-live :
-    (map : List ℕ) (run : Run) (ws : List ℕ) (k cursor : ℕ) (s : State) → Accepted map run → 1 ≤ k → Sound map run ws k → cursor ≡ cursorOf ws k → 1 ≤ cursor
-    → s ≡ resultAt (tripIn map run) (labelAt ws k) cursor → Named (tripIn map run) ws k (record { label = k; live = true; state = s })
-named-live map run ws k cursor s accepted low S is-cursor some is =
+    (trip : Trip) → SoundTrip trip → (ws : List ℕ) (k cursor : ℕ) (s : State) → 1 ≤ k → Sound trip ws k → cursor ≡ cursorOf ws k → 1 ≤ cursor
+    → s ≡ resultAt trip (labelAt ws k) cursor → Named trip ws k (record { label = k; live = true; state = s })
+named-live trip sound ws k cursor s low S is-cursor some is =
     let live : 1 ≤ cursorOf ws k = omega arith in
-    let told = is ∙ ap (resultAt (tripIn map run) (labelAt ws k)) is-cursor in
+    let told = is ∙ ap (resultAt trip (labelAt ws k)) is-cursor in
     record {
       is = refl;
       stands = record {
         fit = record {
           label = S .small;
-          state = subst Small (sym told) (result-small map run accepted _ _ (S .range) (S .cursor live));
+          state = subst Small (sym told) (result-small trip sound _ _ (S .range) (S .cursor live));
         };
-        key = key-open (tripIn map run) ws k low live ∙ ap (λ (t : State). rankNumber t * wordBase + k) (sym told);
+        key = key-open trip ws k low live ∙ ap (λ (t : State). rankNumber t * wordBase + k) (sym told);
       };
     }
 

@@ -9,10 +9,8 @@ use native.Mathlib.Nat.{le-refl}
 use native.Mathlib.Decide.{decLe, ℕ-discrete}
 use lib.ListN.{length, set, length-set}
 use lib.Seq.{getD-set-other}
-use Rattle.roadmap.specs.Format.{junctionCount}
-use Rattle.moves.specs.declared.Run.{Run}
 use Rattle.moves.specs.Trip.{Trip}
-use Rattle.moves.specs.Runs.{Accepted, InRange, tripIn}
+use Rattle.moves.specs.Runs.{SoundTrip, RangeIn}
 use Rattle.states.specs.declared.State.{State}
 use Rattle.states.specs.RankNumber.{wordBase}
 use Rattle.states.specs.LabelSpace.{labelWords}
@@ -51,15 +49,15 @@ winner-set ws ws′ n k v low room e =
 pub child-within : (trip : Trip) (ws : List ℕ) (n i k r : ℕ) → TreeBut (keyAt trip ws) ws n i → i < k → WinnerWithin ws n k r → r ≤ n
 child-within trip ws n i k r T h W = beyond (keyAt trip ws) ws n i k r T h W .small
 
-module _ {map : List ℕ} {run : Run} where
+module _ {trip : Trip} where
   climbed-by :
-      {ws ws′ : List ℕ} {n j v : ℕ} {c : Contender} → Ready map run ws n → Winner ws ws′ n j v → Stands (tripIn map run) ws c
-      → Mending (keyAt (tripIn map run) ws) ws′ n j (c .label) → Climbed map run ws ws′ n j c
+      {ws ws′ : List ℕ} {n j v : ℕ} {c : Contender} → Ready trip ws n → Winner ws ws′ n j v → Stands trip ws c
+      → Mending (keyAt trip ws) ws′ n j (c .label) → Climbed trip ws ws′ n j c
   climbed-by {ws} {ws′} {n} ready W S M =
       record {
         carries = record {
-          ready = ready-kept ws ws′ (W .only) map run n (W .long) ready;
-          mending = rekey-mending (λ m h. key-kept ws ws′ (W .only) (tripIn map run) m) M;
+          ready = ready-kept ws ws′ (W .only) trip n (W .long) ready;
+          mending = rekey-mending (λ m h. key-kept ws ws′ (W .only) trip m) M;
           stands = stands-kept ws ws′ (W .only) S;
         };
         only = W .only;
@@ -67,35 +65,35 @@ module _ {map : List ℕ} {run : Run} where
       }
 
   pub begun :
-      {ws ws′ : List ℕ} {n i l r : ℕ} {c : Contender} → Ready map run ws n → TreeBut (keyAt (tripIn map run) ws) ws n i → 1 ≤ i → i ≤ n
-      → WinnerWithin ws n (2 * i) l → WinnerWithin ws n (2 * i + 1) r → Decided (tripIn map run) ws ws′ n l i r c → Climbed map run ws ws′ n i c
+      {ws ws′ : List ℕ} {n i l r : ℕ} {c : Contender} → Ready trip ws n → TreeBut (keyAt trip ws) ws n i → 1 ≤ i → i ≤ n
+      → WinnerWithin ws n (2 * i) l → WinnerWithin ws n (2 * i + 1) r → Decided trip ws ws′ n l i r c → Climbed trip ws ws′ n i c
   begun {ws} {ws′} {n} {i} {c} ready T low high L R D =
       let W = winner-set ws ws′ n i (c .label) low (ready i low high .room) (D .stored) in
       climbed-by ready W (D .stands) (mend-first low high T L R (D .first) (D .second) (W .stores))
 
   pub climbed :
-      {ws ws′ : List ℕ} {n j r : ℕ} {c c′ : Contender} → Carries map run ws n j c → 1 < j → WinnerWithin ws n (4 * (j / 2) + 1 - j) r
-      → Decided (tripIn map run) ws ws′ n (c .label) (j / 2) r c′ → Climbed map run ws ws′ n (j / 2) c′
+      {ws ws′ : List ℕ} {n j r : ℕ} {c c′ : Contender} → Carries trip ws n j c → 1 < j → WinnerWithin ws n (4 * (j / 2) + 1 - j) r
+      → Decided trip ws ws′ n (c .label) (j / 2) r c′ → Climbed trip ws ws′ n (j / 2) c′
   climbed {ws} {ws′} {n} {j} {c′} C two R D =
       let W = winner-set ws ws′ n (j / 2) (c′ .label) (omega arith) (C .ready (j / 2) (omega arith) (omega (arith, C .mending .high)) .room) (D .stored) in
       climbed-by (C .ready) W (D .stands)
       (mend-step (C .mending) two (omega arith) (λ e. omega arith) R (D .first) (D .second) (W .stores))
 
-  pub sibling-within : {ws : List ℕ} {n j r : ℕ} {c : Contender} → Carries map run ws n j c → 1 < j → WinnerWithin ws n (4 * (j / 2) + 1 - j) r → r ≤ n
+  pub sibling-within : {ws : List ℕ} {n j r : ℕ} {c : Contender} → Carries trip ws n j c → 1 < j → WinnerWithin ws n (4 * (j / 2) + 1 - j) r → r ≤ n
   sibling-within C two W = beside (C .mending) two (omega arith) W .small
 
-  pub afresh : {ws₀ ws : List ℕ} {n j : ℕ} {c : Contender} → Climbed map run ws₀ ws n j c → Climbed map run ws ws n j c
+  pub afresh : {ws₀ ws : List ℕ} {n j : ℕ} {c : Contender} → Climbed trip ws₀ ws n j c → Climbed trip ws ws n j c
   afresh {ws} C = record { carries = C .carries; only = only-refl ws; long = refl }
 
   pub onward :
-      {ws₀ ws ws′ : List ℕ} {n j i : ℕ} {c c′ : Contender} → Climbed map run ws₀ ws n j c → Climbed map run ws ws′ n i c′ → Climbed map run ws₀ ws′ n i c′
+      {ws₀ ws ws′ : List ℕ} {n j i : ℕ} {c c′ : Contender} → Climbed trip ws₀ ws n j c → Climbed trip ws ws′ n i c′ → Climbed trip ws₀ ws′ n i c′
   onward {ws₀} {ws} {ws′} C D = record { carries = D .carries; only = only-trans ws₀ ws ws′ (C .only) (D .only); long = D .long ∙ C .long }
 
-  pub mended : {ws₀ ws : List ℕ} {n j : ℕ} {c : Contender} → Climbed map run ws₀ ws n j c → j ≤ 1 → Mended map run ws₀ ws n
+  pub mended : {ws₀ ws : List ℕ} {n j : ℕ} {c : Contender} → Climbed trip ws₀ ws n j c → j ≤ 1 → Mended trip ws₀ ws n
   mended C h = record { ready = C .carries .ready; tree = mend-end (C .carries .mending) h; only = C .only }
 
   -- A cursor is changed, and the path above its label mended.
-  module _ (ws : List ℕ) (n k cursor : ℕ) (low : 1 ≤ k) (high : k ≤ n) (ready : Ready map run ws n) where
+  module _ (ws : List ℕ) (n k cursor : ℕ) (low : 1 ≤ k) (high : k ≤ n) (ready : Ready trip ws n) where
     abbrev ws₁ : List ℕ
     ws₁ = set ws (at k cursorField) cursor
 
@@ -108,28 +106,28 @@ module _ {map : List ℕ} {run : Run} where
     is : cursorOf ws₁ k ≡ cursor
     is = set-same ws k cursorField cursor (omega arith) low (ready k low high .room)
 
-    pub turned-ready : Cursor (tripIn map run) (labelAt ws k) cursor → Ready map run ws₁ n
+    pub turned-ready : Cursor trip (labelAt ws k) cursor → Ready trip ws₁ n
     turned-ready valid m a b = go (ℕ-discrete m k)
       where
-        go : Dec (m ≡ k) → Sound map run ws₁ m
-        go (no off) = same-sound map run ws ws₁ m (length-set ws _ cursor) (same m a) (other m a off) (ready m a b)
-        go (yes e) = subst (Sound map run ws₁) (sym e) (record {
+        go : Dec (m ≡ k) → Sound trip ws₁ m
+        go (no off) = same-sound trip ws ws₁ m (length-set ws _ cursor) (same m a) (other m a off) (ready m a b)
+        go (yes e) = subst (Sound trip ws₁) (sym e) (record {
           room = rw (length-set ws (at k cursorField) cursor) (ready k low high .room);
           small = ready k low high .small;
-          range = subst (λ (l : State). InRange (junctionCount map) (run .order) l) (sym (same k low)) (ready k low high .range);
-          cursor = subst₂ (λ (l : State) (x : ℕ). Cursor (tripIn map run) l x) (sym (same k low)) (sym is) valid;
+          range = subst (RangeIn trip) (sym (same k low)) (ready k low high .range);
+          cursor = subst₂ (λ (l : State) (x : ℕ). Cursor trip l x) (sym (same k low)) (sym is) valid;
         })
 
-    pub turned-but : Tree (keyAt (tripIn map run) ws) ws n → TreeBut (keyAt (tripIn map run) ws₁) ws₁ n k
+    pub turned-but : Tree (keyAt trip ws) ws n → TreeBut (keyAt trip ws₁) ws₁ n k
     turned-but T =
-        changed (keyAt (tripIn map run) ws) (keyAt (tripIn map run) ws₁) ws ws₁ n k low (λ m h off. go m off (decLe m 0))
+        changed (keyAt trip ws) (keyAt trip ws₁) ws ws₁ n k low (λ m h off. go m off (decLe m 0))
         (set-field ws k cursorField cursor (omega arith) winnerField n (omega arith) (λ e. omega arith)) T
       where
-        go : (m : ℕ) → (m ≡ k → ⊥) → Dec (m ≤ 0) → keyAt (tripIn map run) ws₁ m ≡ keyAt (tripIn map run) ws m
-        go m off (yes h) = let e : m ≡ 0 = omega arith in rw e (key-none (tripIn map run) ws₁ ∙ sym (key-none (tripIn map run) ws))
-        go m off (no h) = same-key (tripIn map run) ws ws₁ m (same m (omega arith)) (other m (omega arith) off)
+        go : (m : ℕ) → (m ≡ k → ⊥) → Dec (m ≤ 0) → keyAt trip ws₁ m ≡ keyAt trip ws m
+        go m off (yes h) = let e : m ≡ 0 = omega arith in rw e (key-none trip ws₁ ∙ sym (key-none trip ws))
+        go m off (no h) = same-key trip ws ws₁ m (same m (omega arith)) (other m (omega arith) off)
 
-    turned-from : (ws′ : List ℕ) → Mended map run ws₁ ws′ n → Advanced map run ws ws′ n k cursor
+    turned-from : (ws′ : List ℕ) → Mended trip ws₁ ws′ n → Advanced trip ws ws′ n k cursor
     turned-from ws′ M =
         record {
           ready = M .ready;
@@ -140,25 +138,25 @@ module _ {map : List ℕ} {run : Run} where
           settled = settled-same ws₁ ws′ n (only-labels ws₁ ws′ (M .only) n) ∙ settled-set ws k cursorField cursor n (omega arith) (omega arith);
         }
 
-    pub turned : {ws₂ ws′ : List ℕ} → ws₂ ≡ set ws (at k cursorField) cursor → Mended map run ws₂ ws′ n → Advanced map run ws ws′ n k cursor
-    turned {ws′} e M = turned-from ws′ (subst (λ (l : List ℕ). Mended map run l ws′ n) e M)
+    pub turned : {ws₂ ws′ : List ℕ} → ws₂ ≡ set ws (at k cursorField) cursor → Mended trip ws₂ ws′ n → Advanced trip ws ws′ n k cursor
+    turned {ws′} e M = turned-from ws′ (subst (λ (l : List ℕ). Mended trip l ws′ n) e M)
 
   -- A label comes in, and wins the nodes of its path up to the first that it does not win.
-  module _ {ws : List ℕ} {n j : ℕ} {new : Contender} (E : Enters map run ws n j new) (low : 1 ≤ j) where
+  module _ {ws : List ℕ} {n j : ℕ} {new : Contender} (E : Enters trip ws n j new) (low : 1 ≤ j) where
     pub old-within : winnerOf ws j ≤ n
     old-within = E .entering .path j low (under-self j) .small
 
-    module _ {old best : Contender} (O : Named (tripIn map run) ws (winnerOf ws j) old) (P : Best old new best) where
-      better : Better (keyAt (tripIn map run) ws) (old .label) (new .label) (best .label)
+    module _ {old best : Contender} (O : Named trip ws (winnerOf ws j) old) (P : Best old new best) where
+      better : Better (keyAt trip ws) (old .label) (new .label) (best .label)
       better = best-better (O .stands) (E .named .stands) P
 
-      pub stays : Accepted map run → (best .label ≡ new .label → ⊥) → Placed map run ws ws n j new false
-      stays accepted differs =
+      pub stays : SoundTrip trip → (best .label ≡ new .label → ⊥) → Placed trip ws ws n j new false
+      stays sound differs =
           record {
             more = λ e. absurd (never e);
             done = λ e. record {
               ready = E .ready;
-              tree = enter-stop (E .entering) low (λ m h. rw (key-none (tripIn map run) ws) (key-top map run accepted ws m (λ p. E .ready m p (omega arith)))) beats;
+              tree = enter-stop (E .entering) low (λ m h. rw (key-none trip ws) (key-top trip sound ws m (λ p. E .ready m p (omega arith)))) beats;
               only = only-refl ws;
             };
             only = only-refl ws;
@@ -171,17 +169,17 @@ module _ {map : List ℕ} {run : Run} where
           first : best .label ≡ old .label
           first = ⊎-elim (λ e. e) (λ e. absurd (differs e)) (better .one)
 
-          beats : keyAt (tripIn map run) ws (winnerOf ws j) ≤ keyAt (tripIn map run) ws (n + 1)
+          beats : keyAt trip ws (winnerOf ws j) ≤ keyAt trip ws (n + 1)
           beats =
-              subst₂ (λ (x y : ℕ). keyAt (tripIn map run) ws x ≤ keyAt (tripIn map run) ws y) (first ∙ O .is) (E .named .is) (better .second)
+              subst₂ (λ (x y : ℕ). keyAt trip ws x ≤ keyAt trip ws y) (first ∙ O .is) (E .named .is) (better .second)
 
-      pub wins : (ws′ : List ℕ) → best .label ≡ new .label → ws′ ≡ set ws (at j winnerField) (new .label) → Placed map run ws ws′ n j new true
+      pub wins : (ws′ : List ℕ) → best .label ≡ new .label → ws′ ≡ set ws (at j winnerField) (new .label) → Placed trip ws ws′ n j new true
       wins ws′ is e =
           let W = winner-set ws ws′ (n + 1) j (n + 1) low (E .ready j low (omega (arith, E .entering .high)) .room) (e ∙ ap (λ (v : ℕ). set ws (at j winnerField) v) (E .named .is)) in
           record {
             more = λ q. record {
-              ready = ready-kept ws ws′ (W .only) map run (n + 1) (W .long) (E .ready);
-              entering = rekey-entering (λ m h. key-kept ws ws′ (W .only) (tripIn map run) m) (enter-step (E .entering) low beats (W .stores));
+              ready = ready-kept ws ws′ (W .only) trip (n + 1) (W .long) (E .ready);
+              entering = rekey-entering (λ m h. key-kept ws ws′ (W .only) trip m) (enter-step (E .entering) low beats (W .stores));
               named = record { is = E .named .is; stands = stands-kept ws ws′ (W .only) (E .named .stands) };
             };
             done = λ q. absurd (never q);
@@ -192,24 +190,24 @@ module _ {map : List ℕ} {run : Run} where
           never : true ≡ false → ⊥
           never q = let z : _≡_ {A = ℕ} 0 1 = cc in omega arith
 
-          beats : keyAt (tripIn map run) ws (n + 1) ≤ keyAt (tripIn map run) ws (winnerOf ws j)
+          beats : keyAt trip ws (n + 1) ≤ keyAt trip ws (winnerOf ws j)
           beats =
-              subst₂ (λ (x y : ℕ). keyAt (tripIn map run) ws x ≤ keyAt (tripIn map run) ws y) (is ∙ E .named .is) (O .is) (better .first)
+              subst₂ (λ (x y : ℕ). keyAt trip ws x ≤ keyAt trip ws y) (is ∙ E .named .is) (O .is) (better .first)
 
 -- before node j of a new label's path
-pub record Entered (map : List ℕ) (run : Run) (ws ws′ : List ℕ) (n j : ℕ) (c : Contender) : Type 0 where
-  pub enters : Enters map run ws′ n j c
+pub record Entered (trip : Trip) (ws ws′ : List ℕ) (n j : ℕ) (c : Contender) : Type 0 where
+  pub enters : Enters trip ws′ n j c
   pub only : OnlyWinners ws ws′
   pub long : length ws′ ≡ length ws
 
-module _ {map : List ℕ} {run : Run} {ws ws′ : List ℕ} {n j : ℕ} {c : Contender} (E : Entered map run ws ws′ n j c) where
-  pub entered-more : {ws″ : List ℕ} → Placed map run ws′ ws″ n j c true → Entered map run ws ws″ n (j / 2) c
+module _ {trip : Trip} {ws ws′ : List ℕ} {n j : ℕ} {c : Contender} (E : Entered trip ws ws′ n j c) where
+  pub entered-more : {ws″ : List ℕ} → Placed trip ws′ ws″ n j c true → Entered trip ws ws″ n (j / 2) c
   entered-more {ws″} P = record { enters = P .more refl; only = only-trans ws ws′ ws″ (E .only) (P .only); long = P .long ∙ E .long }
 
-  pub entered-done : {ws″ : List ℕ} → Placed map run ws′ ws″ n j c false → Mended map run ws ws″ (n + 1)
+  pub entered-done : {ws″ : List ℕ} → Placed trip ws′ ws″ n j c false → Mended trip ws ws″ (n + 1)
   entered-done {ws″} P = let M = P .done refl in record { ready = M .ready; tree = M .tree; only = only-trans ws ws′ ws″ (E .only) (M .only) }
 
-  pub entered-end : j ≤ 0 → Mended map run ws ws′ (n + 1)
+  pub entered-end : j ≤ 0 → Mended trip ws ws′ (n + 1)
   entered-end h = record { ready = E .enters .ready; tree = enter-end (E .enters .entering) h; only = E .only }
 
 -- What a caller knows after a label was added.
@@ -231,19 +229,19 @@ module _ {ws ws′ : List ℕ} {n : ℕ} {label : State} {parent cursor : ℕ} (
   entering trip T = enter-added A (rekey (keyAt trip ws) (keyAt trip ws′) ws n (key-added trip) T)
 
   pub ready-added :
-      (map : List ℕ) (run : Run) → Ready map run ws n → length ws′ ≡ length ws → labelWords * (n + 1) ≤ length ws → n + 1 < wordBase
-      → InRange (junctionCount map) (run .order) label → Cursor (tripIn map run) label cursor → Ready map run ws′ (n + 1)
-  ready-added map run R long room small range valid m low high = go (decLe m n)
+      (trip : Trip) → Ready trip ws n → length ws′ ≡ length ws → labelWords * (n + 1) ≤ length ws → n + 1 < wordBase
+      → RangeIn trip label → Cursor trip label cursor → Ready trip ws′ (n + 1)
+  ready-added trip R long room small range valid m low high = go (decLe m n)
     where
-      go : Dec (m ≤ n) → Sound map run ws′ m
-      go (yes h) = same-sound map run ws ws′ m long (added-label m low h) (added-cursor m low h) (R m low h)
+      go : Dec (m ≤ n) → Sound trip ws′ m
+      go (yes h) = same-sound trip ws ws′ m long (added-label m low h) (added-cursor m low h) (R m low h)
       go (no h) =
           let e : m ≡ n + 1 = omega arith in
-          subst (Sound map run ws′) (sym e) (record {
+          subst (Sound trip ws′) (sym e) (record {
             room = rw long room;
             small = small;
-            range = subst (λ (l : State). InRange (junctionCount map) (run .order) l) (sym (A .is-label)) range;
-            cursor = subst₂ (λ (l : State) (x : ℕ). Cursor (tripIn map run) l x) (sym (A .is-label)) (sym (A .is-cursor)) valid;
+            range = subst (RangeIn trip) (sym (A .is-label)) range;
+            cursor = subst₂ (λ (l : State) (x : ℕ). Cursor trip l x) (sym (A .is-label)) (sym (A .is-cursor)) valid;
           })
 
 -- The root's winner leads.
@@ -252,16 +250,16 @@ leads trip ws n low T = record { within = root-small (keyAt trip ws) ws n low T;
 
 -- where it has no candidate, no label has one
 pub none-left :
-    (map : List ℕ) (run : Run) (ws : List ℕ) (n r : ℕ) → Accepted map run → Ready map run ws n → LeastKey (tripIn map run) ws n r → noKey ≤ keyAt (tripIn map run) ws r
+    (trip : Trip) (ws : List ℕ) (n r : ℕ) → SoundTrip trip → Ready trip ws n → LeastKey trip ws n r → noKey ≤ keyAt trip ws r
     → (m : ℕ) → 1 ≤ m → m ≤ n → cursorOf ws m ≡ 0
-none-left map run ws n r accepted R L none m low high = go (decLe (cursorOf ws m) 0)
+none-left trip ws n r sound R L none m low high = go (decLe (cursorOf ws m) 0)
   where
     go : Dec (cursorOf ws m ≤ 0) → cursorOf ws m ≡ 0
     go (yes h) = omega arith
-    go (no h) = absurd (omega (arith, key-below map run accepted ws m low (R m low high) (omega arith), L .least m low high))
+    go (no h) = absurd (omega (arith, key-below trip sound ws m low (R m low high) (omega arith), L .least m low high))
 
 -- the labels and their links are as they were when a cursor has changed
-pub advanced-labels : {map : List ℕ} {run : Run} {ws ws′ : List ℕ} {n k cursor : ℕ} → Advanced map run ws ws′ n k cursor → SameLabels ws ws′ n
+pub advanced-labels : {trip : Trip} {ws ws′ : List ℕ} {n k cursor : ℕ} → Advanced trip ws ws′ n k cursor → SameLabels ws ws′ n
 advanced-labels A = record {
   states = λ f small m low high. A .others (at m f) (λ e. omega arith) (λ e. omega arith);
   previous = λ m low high. A .others (at m previousField) (λ e. omega arith) (λ e. omega arith);

@@ -3,11 +3,9 @@ use mathlib.Core.Path.{_≡_}
 use mathlib.Core.List.{List}
 use Prim.Native.Nat.{ℕ, zero, suc, _+_, _*_, _%_, _≤_, _<_}
 use lib.ListN.{length, getD}
-use Rattle.roadmap.specs.Format.{junctionCount}
-use Rattle.moves.specs.declared.Run.{Run}
 use Rattle.states.specs.declared.State.{State}
 use Rattle.moves.specs.Trip.{Trip}
-use Rattle.moves.specs.Runs.{InRange, tripIn}
+use Rattle.moves.specs.Runs.{RangeIn}
 use Rattle.states.specs.LabelSpace.{labelWords}
 use Rattle.labels.specs.LabelWords.{winnerField, labelAt, cursorOf}
 use Rattle.candidates.specs.Candidates.{resultAt, Cursor}
@@ -27,19 +25,19 @@ keyAt trip ws zero = noKey
 keyAt trip ws (suc k) = keyFrom trip (labelAt ws (suc k)) (suc k) (cursorOf ws (suc k))
 
 -- label k stands in the words, with a state in range and a cursor that names a legal move of it
-pub record Sound (map : List ℕ) (run : Run) (ws : List ℕ) (k : ℕ) : Type 0 where
+pub record Sound (trip : Trip) (ws : List ℕ) (k : ℕ) : Type 0 where
   pub room : labelWords * k ≤ length ws
   pub small : k < wordBase
-  pub range : InRange (junctionCount map) (run .order) (labelAt ws k)
-  pub cursor : Cursor (tripIn map run) (labelAt ws k) (cursorOf ws k)
+  pub range : RangeIn trip (labelAt ws k)
+  pub cursor : Cursor trip (labelAt ws k) (cursorOf ws k)
 
 -- no label, or a sound one
-abbrev pub Entrant : List ℕ → Run → List ℕ → ℕ → Type 0
-Entrant map run ws k = 1 ≤ k → Sound map run ws k
+abbrev pub Entrant : Trip → List ℕ → ℕ → Type 0
+Entrant trip ws k = 1 ≤ k → Sound trip ws k
 
 -- labels 1 to n are sound
-abbrev pub Ready : List ℕ → Run → List ℕ → ℕ → Type 0
-Ready map run ws n = (k : ℕ) → 1 ≤ k → k ≤ n → Sound map run ws k
+abbrev pub Ready : Trip → List ℕ → ℕ → Type 0
+Ready trip ws n = (k : ℕ) → 1 ≤ k → k ≤ n → Sound trip ws k
 
 -- all words but the winners are as they were
 abbrev pub OnlyWinners : List ℕ → List ℕ → Type 0

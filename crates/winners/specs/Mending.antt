@@ -5,10 +5,8 @@ use mathlib.Core.List.{List}
 use mathlib.Core.Logic.{_⊎_}
 use Prim.Native.Nat.{ℕ, _+_, _*_, _/_, _%_, _≤_, _<_}
 use lib.ListN.{length, getD, set}
-use Rattle.moves.specs.declared.Run.{Run}
 use Rattle.states.specs.declared.State.{State}
 use Rattle.moves.specs.Trip.{Trip}
-use Rattle.moves.specs.Runs.{tripIn}
 use Rattle.states.specs.LabelSpace.{labelWords}
 use Rattle.labels.specs.LabelWords.{cursorField, winnerField, at, cursorOf, settled}
 use Rattle.labels.specs.Tree.{Tree, Better, Mending, Entering}
@@ -61,41 +59,41 @@ pub record Decided (trip : Trip) (ws ws′ : List ℕ) (n l k r : ℕ) (c : Cont
   pub within : c .label ≤ n
 
 -- c has won below node j, and only the nodes above j are left to mend
-pub record Carries (map : List ℕ) (run : Run) (ws : List ℕ) (n j : ℕ) (c : Contender) : Type 0 where
-  pub ready : Ready map run ws n
-  pub mending : Mending (keyAt (tripIn map run) ws) ws n j (c .label)
-  pub stands : Stands (tripIn map run) ws c
+pub record Carries (trip : Trip) (ws : List ℕ) (n j : ℕ) (c : Contender) : Type 0 where
+  pub ready : Ready trip ws n
+  pub mending : Mending (keyAt trip ws) ws n j (c .label)
+  pub stands : Stands trip ws c
 
-pub record Climbed (map : List ℕ) (run : Run) (ws ws′ : List ℕ) (n j : ℕ) (c : Contender) : Type 0 where
-  pub carries : Carries map run ws′ n j c
+pub record Climbed (trip : Trip) (ws ws′ : List ℕ) (n j : ℕ) (c : Contender) : Type 0 where
+  pub carries : Carries trip ws′ n j c
   pub only : OnlyWinners ws ws′
   pub long : length ws′ ≡ length ws
 
 -- the tree is right, and nothing but winners has changed
-pub record Mended (map : List ℕ) (run : Run) (ws ws′ : List ℕ) (n : ℕ) : Type 0 where
-  pub ready : Ready map run ws′ n
-  pub tree : Tree (keyAt (tripIn map run) ws′) ws′ n
+pub record Mended (trip : Trip) (ws ws′ : List ℕ) (n : ℕ) : Type 0 where
+  pub ready : Ready trip ws′ n
+  pub tree : Tree (keyAt trip ws′) ws′ n
   pub only : OnlyWinners ws ws′
 
 -- label k has the cursor, the tree is right again, and nothing else has changed but winners
-pub record Advanced (map : List ℕ) (run : Run) (ws ws′ : List ℕ) (n k cursor : ℕ) : Type 0 where
-  pub ready : Ready map run ws′ n
-  pub tree : Tree (keyAt (tripIn map run) ws′) ws′ n
+pub record Advanced (trip : Trip) (ws ws′ : List ℕ) (n k cursor : ℕ) : Type 0 where
+  pub ready : Ready trip ws′ n
+  pub tree : Tree (keyAt trip ws′) ws′ n
   pub is-cursor : cursorOf ws′ k ≡ cursor
   pub cursors : (m : ℕ) → 1 ≤ m → (m ≡ k → ⊥) → cursorOf ws′ m ≡ cursorOf ws m
   pub others : (p : ℕ) → (p % labelWords ≡ winnerField → ⊥) → (p % labelWords ≡ cursorField → ⊥) → getD ws′ p 0 ≡ getD ws p 0
   pub settled : settled ws′ n ≡ settled ws n
 
 -- label n + 1, told as c, has come in, and the nodes from j up are left to mend
-pub record Enters (map : List ℕ) (run : Run) (ws : List ℕ) (n j : ℕ) (c : Contender) : Type 0 where
-  pub ready : Ready map run ws (n + 1)
-  pub entering : Entering (keyAt (tripIn map run) ws) ws n j
-  pub named : Named (tripIn map run) ws (n + 1) c
+pub record Enters (trip : Trip) (ws : List ℕ) (n j : ℕ) (c : Contender) : Type 0 where
+  pub ready : Ready trip ws (n + 1)
+  pub entering : Entering (keyAt trip ws) ws n j
+  pub named : Named trip ws (n + 1) c
 
 -- it has won node j, or else the tree is right
-pub record Placed (map : List ℕ) (run : Run) (ws ws′ : List ℕ) (n j : ℕ) (c : Contender) (won : Bool) : Type 0 where
-  pub more : won ≡ true → Enters map run ws′ n (j / 2) c
-  pub done : won ≡ false → Mended map run ws ws′ (n + 1)
+pub record Placed (trip : Trip) (ws ws′ : List ℕ) (n j : ℕ) (c : Contender) (won : Bool) : Type 0 where
+  pub more : won ≡ true → Enters trip ws′ n (j / 2) c
+  pub done : won ≡ false → Mended trip ws ws′ (n + 1)
   pub only : OnlyWinners ws ws′
   pub long : length ws′ ≡ length ws
 

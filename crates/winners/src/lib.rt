@@ -32,7 +32,7 @@ fn shut(k: usize) -> Contender
 // Label k as a contender.
 fn candidate_of(map: &[u8], run: Run, words: &[u32], k: usize) -> Contender
     requires { ⌜ Accepted (now map) run ⌝ }
-    requires { ⌜ Entrant (now map) run (now words) k ⌝ }
+    requires { ⌜ Entrant (tripIn (now map) run) (now words) k ⌝ }
     ensures { λ r. ⌜ Named (tripIn (now (map .entry)) run) (now (words .entry)) k r ⌝ }
 {
     if k == 0 {
@@ -85,7 +85,7 @@ fn decide(
     other: usize,
 ) -> Contender
     requires { ⌜ Accepted (now map) run ⌝ }
-    requires { ⌜ Ready (now map) run (now words) n ⌝ }
+    requires { ⌜ Ready (tripIn (now map) run) (now words) n ⌝ }
     requires { ⌜ Stands (tripIn (now map) run) (now words) below ⌝ }
     requires { ⌜ (1 ≤ k) × (k ≤ n) × (below .label ≤ n) × (other ≤ n) ⌝ }
     ensures { λ r. ⌜ Decided (tripIn (now (map .entry)) run) (now (words .entry)) (now (words .exit)) n (below .label) k other r ⌝ }
@@ -101,10 +101,10 @@ fn decide(
 // The node of label i itself.
 fn begin(map: &[u8], run: Run, words: &mut [u32], n: usize, i: usize) -> Contender
     requires { ⌜ Accepted (now map) run ⌝ }
-    requires { ⌜ Ready (now map) run (now words) n ⌝ }
+    requires { ⌜ Ready (tripIn (now map) run) (now words) n ⌝ }
     requires { ⌜ TreeBut (keyAt (tripIn (now map) run) (now words)) (now words) n i ⌝ }
     requires { ⌜ (1 ≤ i) × (i ≤ n) ⌝ }
-    ensures { λ r. ⌜ Climbed (now (map .entry)) run (now (words .entry)) (now (words .exit)) n i r ⌝ }
+    ensures { λ r. ⌜ Climbed (tripIn (now (map .entry)) run) (now (words .entry)) (now (words .exit)) n i r ⌝ }
 {
     let left = labels::winner_within(words, n, 2 * i) as usize;
     let right = labels::winner_within(words, n, 2 * i + 1) as usize;
@@ -115,8 +115,8 @@ fn begin(map: &[u8], run: Run, words: &mut [u32], n: usize, i: usize) -> Contend
 // The node above j, from the winner below j and that of j's sibling.
 fn climb(map: &[u8], run: Run, words: &mut [u32], n: usize, j: usize, best: Contender) -> Contender
     requires { ⌜ Accepted (now map) run ⌝ }
-    requires { ⌜ Carries (now map) run (now words) n j best × (1 < j) ⌝ }
-    ensures { λ r. ⌜ Climbed (now (map .entry)) run (now (words .entry)) (now (words .exit)) n (j / 2) r ⌝ }
+    requires { ⌜ Carries (tripIn (now map) run) (now words) n j best × (1 < j) ⌝ }
+    ensures { λ r. ⌜ Climbed (tripIn (now (map .entry)) run) (now (words .entry)) (now (words .exit)) n (j / 2) r ⌝ }
 {
     let above = j / 2;
     let other = labels::winner_within(words, n, 4 * above + 1 - j) as usize;
@@ -126,10 +126,10 @@ fn climb(map: &[u8], run: Run, words: &mut [u32], n: usize, j: usize, best: Cont
 // Mends the tree after label i's cursor has changed: the nodes from i up to the root.
 pub fn mend(map: &[u8], run: Run, words: &mut [u32], n: usize, i: usize)
     requires { ⌜ Accepted (now map) run ⌝ }
-    requires { ⌜ Ready (now map) run (now words) n ⌝ }
+    requires { ⌜ Ready (tripIn (now map) run) (now words) n ⌝ }
     requires { ⌜ TreeBut (keyAt (tripIn (now map) run) (now words)) (now words) n i ⌝ }
     requires { ⌜ (1 ≤ i) × (i ≤ n) ⌝ }
-    ensures { λ _. ⌜ Mended (now (map .entry)) run (now (words .entry)) (now (words .exit)) n ⌝ }
+    ensures { λ _. ⌜ Mended (tripIn (now (map .entry)) run) (now (words .entry)) (now (words .exit)) n ⌝ }
 {
     let mut best = begin(map, run, words, n, i);
     let mut j = i;
@@ -142,11 +142,11 @@ pub fn mend(map: &[u8], run: Run, words: &mut [u32], n: usize, i: usize)
 // Label k's candidate is another now, or none.
 pub fn advance(map: &[u8], run: Run, words: &mut [u32], n: usize, k: usize, cursor: u32)
     requires { ⌜ Accepted (now map) run ⌝ }
-    requires { ⌜ Ready (now map) run (now words) n ⌝ }
+    requires { ⌜ Ready (tripIn (now map) run) (now words) n ⌝ }
     requires { ⌜ Tree (keyAt (tripIn (now map) run) (now words)) (now words) n ⌝ }
     requires { ⌜ (1 ≤ k) × (k ≤ n) ⌝ }
     requires { ⌜ Cursor (tripIn (now map) run) (labelAt (now words) k) cursor ⌝ }
-    ensures { λ _. ⌜ Advanced (now (map .entry)) run (now (words .entry)) (now (words .exit)) n k cursor ⌝ }
+    ensures { λ _. ⌜ Advanced (tripIn (now (map .entry)) run) (now (words .entry)) (now (words .exit)) n k cursor ⌝ }
 {
     labels::set_cursor(words, k, cursor);
     mend(map, run, words, n, k);
@@ -155,8 +155,8 @@ pub fn advance(map: &[u8], run: Run, words: &mut [u32], n: usize, k: usize, curs
 // Whether the new label n + 1 wins node j, where it then is stored.
 fn place(map: &[u8], run: Run, words: &mut [u32], n: usize, j: usize, new: Contender) -> bool
     requires { ⌜ Accepted (now map) run ⌝ }
-    requires { ⌜ Enters (now map) run (now words) n j new × (1 ≤ j) ⌝ }
-    ensures { λ r. ⌜ Placed (now (map .entry)) run (now (words .entry)) (now (words .exit)) n j new r ⌝ }
+    requires { ⌜ Enters (tripIn (now map) run) (now words) n j new × (1 ≤ j) ⌝ }
+    ensures { λ r. ⌜ Placed (tripIn (now (map .entry)) run) (now (words .entry)) (now (words .exit)) n j new r ⌝ }
 {
     let old = candidate_of(map, run, words, labels::winner(words, j) as usize);
     let best = better(old, new);
@@ -170,9 +170,9 @@ fn place(map: &[u8], run: Run, words: &mut [u32], n: usize, j: usize, new: Conte
 // Mends the tree after label n + 1 has come in: upwards, to the first node that it does not win.
 pub fn enter(map: &[u8], run: Run, words: &mut [u32], n: usize)
     requires { ⌜ Accepted (now map) run ⌝ }
-    requires { ⌜ Ready (now map) run (now words) (n + 1) ⌝ }
+    requires { ⌜ Ready (tripIn (now map) run) (now words) (n + 1) ⌝ }
     requires { ⌜ Entering (keyAt (tripIn (now map) run) (now words)) (now words) n ((n + 1) / 2) ⌝ }
-    ensures { λ _. ⌜ Mended (now (map .entry)) run (now (words .entry)) (now (words .exit)) (n + 1) ⌝ }
+    ensures { λ _. ⌜ Mended (tripIn (now (map .entry)) run) (now (words .entry)) (now (words .exit)) (n + 1) ⌝ }
 {
     let new = candidate_of(map, run, words, n + 1);
     let mut j = (n + 1) / 2;

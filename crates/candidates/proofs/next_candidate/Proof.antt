@@ -1,4 +1,5 @@
 use borrow.Author.Needs.{needs}
+use Rattle.moves.proofs.Trips.{run-tied}
 use Rattle.labels.specs.LabelWords.{settled}
 use Rattle.candidates.proofs.Cursors.{tried-all}
 use Rattle.candidates.proofs.next_candidate.Statement.{statement}
@@ -12,7 +13,7 @@ best-pause-requires c κs =
 returns : tie.Need-returns
 returns c =
     let args = c .before .before .before .before .before .before .before .args in
-    tried-all (args .map .now) (args .run .order) (args .state) (settled (args .words .now) (args .n)) (args .bound) (c .best-pause .result) (c .best-pause .ensures)
+    tried-all (run-tied (args .map .now) (args .run)) (args .state) (settled (args .words .now) (args .n)) (args .bound) (c .best-pause .result) (c .best-pause .ensures)
 
 pub next-candidate-spec : {M : Type 1} → statement M
 next-candidate-spec = tie.close (tie.spec (λ c κs. search needs) best-pause-requires returns)

@@ -2,8 +2,8 @@ use mathlib.Core.Path.{_∙_}
 use Prim.Native.Nat.{_+_, _-_}
 use native.Mathlib.Omega.{arith}
 use borrow.Author.Needs.{needs}
-use Rattle.moves.proofs.Trips.{roads-in}
-use Rattle.moves.proofs.Rising.{clock-high}
+use Rattle.moves.proofs.Trips.{run-tied}
+use Rattle.moves.proofs.Rising.{run-sound, clock-high}
 use Rattle.candidates.proofs.Results.{result-drive, result-pause}
 use Rattle.candidates.proofs.result_at.Statement.{statement}
 use Rattle.candidates.proofs.result_at.Tie as tie
@@ -17,19 +17,19 @@ returns : tie.Need-returns
 returns c =
     let s = c .before .before .before .before .before in
     let args = s .args in
-    c .after-drive .ensures ∙ result-drive (args .map .now) (args .run .order) (args .state) (args .cursor) (s .pre .1 .1 .low) (omega (arith, c .before .if1 .taken, s .pre .0 .sized .roads))
+    c .after-drive .ensures ∙ result-drive (run-tied (args .map .now) (args .run)) (args .state) (args .cursor) (s .pre .1 .1 .low) (omega (arith, c .before .if1 .taken, s .pre .0 .sized .roads))
 
 add-after-pause : tie.Need-add-after-pause
 add-after-pause c =
     let s = c .before .before .before .before .before in
-    omega (arith, s .pre .1 .1 .high, roads-in (s .args .map .now) (s .args .run .order), s .pre .0 .sized .roads)
+    omega (arith, s .pre .1 .1 .high, run-tied (s .args .map .now) (s .args .run) .roads, s .pre .0 .sized .roads)
 
 after-pause-requires : tie.Need-after-pause-requires
 after-pause-requires c κs =
     let s = c .before .before .before .before .before in
     let args = s .args in (
-      (s .pre .0 .ordered .sound-rules, clock-high _ (args .run .order) (s .pre .0 .ordered) (args .state) (s .pre .1 .0)),
-      (omega (arith, c .before .if1 .left), omega (arith, c .before .if1 .left, s .pre .1 .1 .high, roads-in (args .map .now) (args .run .order), s .pre .0 .sized .roads)),
+      (s .pre .0 .ordered .sound-rules, clock-high _ (run-sound (args .map .now) (args .run) (s .pre .0)) (args .state) (s .pre .1 .0)),
+      (omega (arith, c .before .if1 .left), omega (arith, c .before .if1 .left, s .pre .1 .1 .high, run-tied (args .map .now) (args .run) .roads, s .pre .0 .sized .roads)),
     )
 
 returns-2 : tie.Need-returns-2
@@ -37,7 +37,7 @@ returns-2 c =
     let s = c .before .before .before .before .before .before in
     let args = s .args in
     c .after-pause .ensures
-    ∙ result-pause (args .map .now) (args .run .order) (args .state) (args .cursor) (args .cursor - args .run .sizes .roads + 1) (omega (arith, c .before .before .if1 .left)) (omega (arith, c .before .before .if1 .left, s .pre .0 .sized .roads))
+    ∙ result-pause (run-tied (args .map .now) (args .run)) (args .state) (args .cursor) (args .cursor - args .run .sizes .roads + 1) (omega (arith, c .before .before .if1 .left)) (omega (arith, c .before .before .if1 .left, s .pre .0 .sized .roads))
 
 pub result-at-spec : {M : Type 1} → statement M
 result-at-spec =

@@ -1,18 +1,18 @@
 use native.Mathlib.Omega.{arith}
 use borrow.Author.Needs.{needs}
-use Rattle.moves.proofs.Rising.{clock-high, figures-high}
+use Rattle.moves.proofs.Rising.{run-sound, clock-high, figures-high}
 use Rattle.moves.proofs.after_drive.Statement.{statement}
 use Rattle.moves.proofs.after_drive.Tie as tie
 
 driven-requires : tie.Need-driven-requires
 driven-requires c κs =
     let s = c .before .before .before .before in
-    (figures-high _ (s .args .run .order) (s .pre .0 .ordered) (s .args .state) (s .pre .1 .0), c .seconds-of .ensures .1)
+    (figures-high _ (run-sound (s .args .map .now) (s .args .run) (s .pre .0)) (s .args .state) (s .pre .1 .0), c .seconds-of .ensures .1)
 
 add-t9 : tie.Need-add-t9
 add-t9 c =
     let s = c .before .before .before .before .before .before in
-    omega (arith, clock-high _ (s .args .run .order) (s .pre .0 .ordered) (s .args .state) (s .pre .1 .0), c .before .before .seconds-of .ensures .1)
+    omega (arith, clock-high _ (run-sound (s .args .map .now) (s .args .run) (s .pre .0)) (s .args .state) (s .pre .1 .0), c .before .before .seconds-of .ensures .1)
 
 returns : tie.Need-returns
 returns c = cc

@@ -1,5 +1,6 @@
 use borrow.Author.Needs.{needs}
 use mathlib.Core.Path.{_∙_, sym}
+use Rattle.moves.proofs.Trips.{run-tied}
 use Rattle.moves.proofs.Stepped.{leaves-range, drive-foreign, drive-told}
 use Rattle.moves.proofs.drive.Statement.{statement}
 use Rattle.moves.proofs.drive.Tie as tie
@@ -8,7 +9,7 @@ after-drive-requires : tie.Need-after-drive-requires
 after-drive-requires c κs =
     let asked = c .before .before in
     let start = asked .before .before in
-    (start .pre .0, (start .pre .1, leaves-range (start .args .map .now) (start .args .run .order) (start .args .state .junction) (start .args .r) (sym (asked .leaves-road .ensures) ∙ c .before .if1 .taken)))
+    (start .pre .0, (start .pre .1, leaves-range (run-tied (start .args .map .now) (start .args .run)) (start .args .state .junction) (start .args .r) (sym (asked .leaves-road .ensures) ∙ c .before .if1 .taken)))
 
 returns : tie.Need-returns
 returns c =
@@ -16,12 +17,12 @@ returns c =
     let asked = reached .before .before .before in
     let args = asked .before .before .args in
     c .judge .ensures
-    ∙ drive-told (args .map .now) (args .run .order) (args .state) (args .r) (sym (asked .leaves-road .ensures) ∙ reached .before .before .if1 .taken) (reached .after-drive .ensures)
+    ∙ drive-told (run-tied (args .map .now) (args .run)) (args .state) (args .r) (sym (asked .leaves-road .ensures) ∙ reached .before .before .if1 .taken) (reached .after-drive .ensures)
 
 returns-2 : tie.Need-returns-2
 returns-2 c =
     let args = c .before .before .before .args in
-    drive-foreign (args .map .now) (args .run .order) (args .state) (args .r) (sym (c .before .leaves-road .ensures) ∙ c .if1 .left)
+    drive-foreign (run-tied (args .map .now) (args .run)) (args .state) (args .r) (sym (c .before .leaves-road .ensures) ∙ c .if1 .left)
 
 pub drive-spec : {M : Type 1} → statement M
 drive-spec =

@@ -5,6 +5,7 @@ use mathlib.Core.Bool.{not}
 use native.Mathlib.Omega.{arith}
 use borrow.Author.Needs.{needs}
 use borrow.Author.Tests.{lt-ltb, le-ltb}
+use Rattle.moves.proofs.Trips.{run-tied}
 use Rattle.readback.specs.Moving.{passesBy}
 use Rattle.readback.proofs.Leading.{drive-leads}
 use Rattle.readback.proofs.passes_by.Statement.{statement}
@@ -26,7 +27,7 @@ returns-2 c =
     let args = start .args in
     let low : 1 ≤ args .road = omega (arith, c .before .before .before .if1 .left) in
     let driven = c .before .after-drive in
-    rw (lt-ltb 0 (args .road) low, drive-leads (args .map .now) (args .run .order) (args .p) (args .t) (args .road) (driven .result) low (start .pre .2) (driven .ensures))
+    rw (lt-ltb 0 (args .road) low, drive-leads (run-tied (args .map .now) (args .run)) (args .p) (args .t) (args .road) (driven .result) low (start .pre .2) (driven .ensures))
     (ap not (c .leads-to .ensures))
 
 pub passes-by-spec : {M : Type 1} → statement M

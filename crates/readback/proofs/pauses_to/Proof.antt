@@ -2,8 +2,9 @@ use mathlib.Core.Path.{_∙_, sym}
 use borrow.Author.Needs.{needs}
 use borrow.Author.Tests.{not-true, not-false}
 use Rattle.moves.specs.Runs.{tripIn}
+use Rattle.moves.proofs.Trips.{run-tied}
 use Rattle.moves.proofs.Offered.{pause-range}
-use Rattle.moves.proofs.Rising.{clock-high}
+use Rattle.moves.proofs.Rising.{run-sound, clock-high}
 use Rattle.readback.proofs.Leading.{pause-leads}
 use Rattle.readback.proofs.pauses_to.Statement.{statement}
 use Rattle.readback.proofs.pauses_to.Tie as tie
@@ -15,7 +16,7 @@ after-pause-requires : tie.Need-after-pause-requires
 after-pause-requires c κs =
     let s = c .before .before .before .before in
     let args = s .args in (
-      (s .pre .0 .ordered .sound-rules, clock-high _ (args .run .order) (s .pre .0 .ordered) (args .p) (s .pre .1)),
+      (s .pre .0 .ordered .sound-rules, clock-high _ (run-sound (args .map .now) (args .run) (s .pre .0)) (args .p) (s .pre .1)),
       pause-range (tripIn (args .map .now) (args .run)) (args .p) (args .kind) (sym (c .before .before .may-pause .ensures) ∙ not-false _ (c .before .if1 .left)),
     )
 
@@ -26,7 +27,7 @@ returns-2 c =
     let args = s .args in
     rw (sym (asked .may-pause .ensures) ∙ not-false _ (c .before .before .before .if1 .left))
     (c .leads-to .ensures
-    ∙ sym (pause-leads (args .map .now) (args .run .order) (args .p) (args .t) (args .kind) (c .before .after-pause .result) (s .pre .2) (c .before .after-pause .ensures)))
+    ∙ sym (pause-leads (run-tied (args .map .now) (args .run)) (args .p) (args .t) (args .kind) (c .before .after-pause .result) (s .pre .2) (c .before .after-pause .ensures)))
 
 pub pauses-to-spec : {M : Type 1} → statement M
 pauses-to-spec =

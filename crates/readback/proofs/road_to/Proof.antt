@@ -46,7 +46,8 @@ use denote.Exit.{yes}
 use Rattle.roadmap.specs.Format.{junctionCount, roadCount, firstRoad, nextRoad}
 use Rattle.moves.specs.declared.Run.{Run}
 use Rattle.states.specs.declared.State.{State}
-use Rattle.moves.specs.Runs.{Accepted, InRange, tripIn}
+use Rattle.moves.specs.Runs.{Accepted, tripIn, RangeIn}
+use Rattle.moves.proofs.Trips.{run-tied}
 use Rattle.moves.proofs.Run as R
 use Rattle.moves.proofs.Run.Laws as R′
 use Rattle.states.proofs.State as S
@@ -121,7 +122,7 @@ module _ {M : Type 1} (𝓤 : URA M) (H : Heap 𝓤) (A : Atoms 𝓤) (mem : Mem
 
 module _ {M : Type 1} (𝓤 : URA M) (H : Heap 𝓤) (A : Atoms 𝓤) (W : Given 𝓤 H A) (mem : Memory → SProp 𝓤) (exe : Routine → Fun 𝓤) (κ : Lft) (q : Share) (s : RefT (List ℕ)) (run : Run) (p t : State)
     (s-is : Is (ShrSlice (named 0) κ u8) s (sliceVal (s .ptr) (length (s .now)) ∷ [])) (run-is : Is R.the-row run (R′.lowered run ∷ [])) (p-is : Is S.the-row p (S′.lowered p ∷ [])) (t-is : Is S.the-row t (S′.lowered t ∷ []))
-    (accepted : Accepted (now s) run) (in-range : InRange (junctionCount (now s)) (run .order) p) where
+    (accepted : Accepted (now s) run) (in-range : RangeIn (tripIn (now s) run) p) where
   abbrev α : NamedLft
   α = namedLft 1 0 tt (κ, tt)
 
@@ -158,8 +159,11 @@ module _ {M : Type 1} (𝓤 : URA M) (H : Heap 𝓤) (A : Atoms 𝓤) (W : Given
   twice = shr-slice-copy 𝓤 H A W (named 0) κ u8 .twice s (v ∷ [])
 
   -- ---- facts of numbers
+  here-high : p .junction ≤ junctionCount (now s)
+  here-high = rw (run-tied (now s) run .junctions) at (in-range .high)
+
   here-fits : p .junction < 2 ^ 32
-  here-fits = omega (arith, accepted .sized, in-range .high)
+  here-fits = omega (arith, accepted .sized, here-high)
 
   fits : {r : ℕ} → r ≤ roadCount (now s) → r < 2 ^ 32
   fits within = omega (arith, accepted .sized)
@@ -179,7 +183,7 @@ module _ {M : Type 1} (𝓤 : URA M) (H : Heap 𝓤) (A : Atoms 𝓤) (W : Given
   goes-start =
       qed W (Token ∷ ‵ Own ∷ []) ∵ move ! (1 ∷ []) $ use1 W (‵ Own ⊛ ‵ Own) twice $ split ! $
       nothing ! $ owned ! u32 (Is u32) (uint-makes 𝓤 H A W w32) (p .junction) _ (refl, here-fits) $ fjoin ! $ move ! (1 ∷ 0 ∷ []) $ fjoin ! $ move ! (2 ∷ 0 ∷ []) $
-      use2 W (raw (Start 𝓤 H A mem exe .pre to-start)) (qed W (Token ∷ ‵ (owns (ShrSlice (named 0) κ u8 ∷ u32 ∷ []) (s, (p .junction, tt)) (v ∷ [], (vint w32 (p .junction) ∷ [], tt))) ∷ []) ∵ says ! (junction-on (accepted .sized) (in-range .low) (in-range .high)) $ frame ! $ done !) $ frame ! $ done !
+      use2 W (raw (Start 𝓤 H A mem exe .pre to-start)) (qed W (Token ∷ ‵ (owns (ShrSlice (named 0) κ u8 ∷ u32 ∷ []) (s, (p .junction, tt)) (v ∷ [], (vint w32 (p .junction) ∷ [], tt))) ∷ []) ∵ says ! (junction-on (accepted .sized) (in-range .low) here-high) $ frame ! $ done !) $ frame ! $ done !
 
   abbrev Started : ChainReader → Type 0
   Started d = (d .map ≡ s) × (d .road ≡ firstRoad (now s) (p .junction))
@@ -233,7 +237,7 @@ module _ {M : Type 1} (𝓤 : URA M) (H : Heap 𝓤) (A : Atoms 𝓤) (W : Given
 
   -- ---- the loop: the roads that the reader can stand at, ordered by what is left of the chain
   abbrev Stand : Type 0
-  Stand = (r : ℕ) × Walking (now s) (run .order) p t r
+  Stand = (r : ℕ) × Walking (now s) (tripIn (now s) run) p t r
 
   abbrev left : Stand → ℕ
   left x = roadCount (now s) + 1 - upTo (roadCount (now s)) (x .0)
@@ -276,7 +280,7 @@ module _ {M : Type 1} (𝓤 : URA M) (H : Heap 𝓤) (A : Atoms 𝓤) (W : Given
       passed : (x : Stand) (b : Bool) → b ≡ true → Tested (x .0) b → Sq W (At x) (runs C Λ En moves-on (anyQ (Turned x)))
       unfolding afterTurn
       passed (r, walking) b held e =
-          let next = walk-on (now s) (run .order) p t (accepted .mapped) r walking (sym e ∙ held) in
+          let next = walk-on (run-tied (now s) run) p t (accepted .mapped) r walking (sym e ∙ held) in
           let less = walk-rises (now s) (accepted .mapped) r (next .0) (walking .within) in
           assigns ! (of-opd ! (load ! (from ! (stop !)) (look ! 8 refl))) (from ! (stop !)) (init ! 2 refl (typed (walking .within))) $
           use2 W (raw (Onward 𝓤 H A mem exe .pre (to-onward r)) ⊛ ‵ Own) (goes-onward r (next .0) (walking .within)) $ split ! $
@@ -295,7 +299,7 @@ module _ {M : Type 1} (𝓤 : URA M) (H : Heap 𝓤) (A : Atoms 𝓤) (W : Given
           returns ! (look ! 18 refl) $ forget ! 8 refl $ forget ! 10 refl $ forget ! 12 refl $ forget ! 14 refl $ forget ! 16 refl $ forget ! 18 refl $
           move ! (18 ∷ 19 ∷ []) $ free1 ! $ move ! (16 ∷ 17 ∷ []) $ free1 ! $ move ! (14 ∷ 15 ∷ []) $ free1 ! $ move ! (12 ∷ 13 ∷ []) $ free1 ! $ move ! (10 ∷ 11 ∷ []) $ free1 ! $
           move ! (8 ∷ 9 ∷ []) $ free1 ! $ move ! (6 ∷ 7 ∷ []) $ free1 ! $ move ! (4 ∷ 5 ∷ []) $ free1 ! $ move ! (2 ∷ 3 ∷ []) $ free1 ! $ free0 ! $
-          by ! (exits r (walking .within) (walk-stops (now s) (run .order) p t r walking (sym e ∙ failed)))
+          by ! (exits r (walking .within) (walk-stops (run-tied (now s) run) p t r walking (sym e ∙ failed)))
 
       turns : (x : Stand) → Sq W (At x) (runs C Λ En parts.turn-1 (anyQ (Turned x)))
       unfolding afterTurn
@@ -321,7 +325,7 @@ module _ {M : Type 1} (𝓤 : URA M) (H : Heap 𝓤) (A : Atoms 𝓤) (W : Given
           split ! $ move ! (1 ∷ []) $ use1 W (raw (fact 𝓤 (Started d))) (said-start d) $ heard ! (Started d) (λ e. split ! $ move ! (1 ∷ []) $
           peeks ! B (Is B) (shows 𝓤 H A B) d (u ∷ []) (λ is.
           land ! (from ! (stop !)) (init ! 9 refl (LL.lawful (T.the-type αᵉ) (T′.the-laws αᵉ) 𝓤 H A W .typed d _ is .0)) $ rewrite ! 9 (λ (y : Val). ‵ (fat fullShare reader l₅ 0 y)) (value is e) refl $ drop ! $
-          first ! $ blocks ! $ loops ! 𝓣 Nearer Nearer-wf At turns (firstRoad (now s) (p .junction), walk-first (now s) (run .order) p t (accepted .mapped) (in-range .low) (in-range .high))))))
+          first ! $ blocks ! $ loops ! 𝓣 Nearer Nearer-wf At turns (firstRoad (now s) (p .junction), walk-first (run-tied (now s) run) p t (accepted .mapped) in-range)))))
 
     walk : ent 𝓤 (onEntry 𝓤 H A road-to.signature (κ, tt) (q, tt) (s, (run, (p, (t, tt)))) at) (WpFn 𝓤 H C Λ code.function (v ∷ R′.lowered run ∷ S′.lowered p ∷ S′.lowered t ∷ []) Post)
     walk =

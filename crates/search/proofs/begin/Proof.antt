@@ -4,6 +4,8 @@ use native.Mathlib.Omega.{arith}
 use lib.ListN.{length}
 use borrow.Author.Needs.{needs}
 use Rattle.moves.specs.Runs.{tripIn}
+use Rattle.moves.proofs.Trips.{run-tied}
+use Rattle.moves.proofs.Rising.{run-sound}
 use Rattle.winners.proofs.Steps.{entering}
 use Rattle.search.proofs.Beginning.{start-within, first-ready, begun}
 use Rattle.search.proofs.begin.Statement.{statement}
@@ -12,12 +14,12 @@ use Rattle.search.proofs.begin.Tie as tie
 next-candidate-requires : tie.Need-next-candidate-requires
 next-candidate-requires c κs =
     let s = c .before .before .before .before .before .before .before .before .before .before .before in
-    (s .pre .0, (start-within (s .args .map .now) (s .args .run) (s .pre .0) (c .before .before .before .before .start-of .ensures), (s .pre .1 .0, s .pre .1 .1 .0)))
+    (s .pre .0, (start-within (run-tied (s .args .map .now) (s .args .run)) (run-sound (s .args .map .now) (s .args .run) (s .pre .0)) (c .before .before .before .before .start-of .ensures), (s .pre .1 .0, s .pre .1 .1 .0)))
 
 add-label-requires : tie.Need-add-label-requires
 add-label-requires c κs =
     let s = c .before .before .before .before .before .before .before .before .before .before .before .before .before .before .before .before in
-    let range = start-within (s .args .map .now) (s .args .run) (s .pre .0) (c .before .before .before .before .before .before .before .before .before .start-of .ensures) in
+    let range = start-within (run-tied (s .args .map .now) (s .args .run)) (run-sound (s .args .map .now) (s .args .run) (s .pre .0)) (c .before .before .before .before .before .before .before .before .before .start-of .ensures) in
     let here : c .before .before .before .before .before .before .before .before .before .start-of .result .junction < length (s .args .heads .now) = omega (arith, range .high, s .pre .1 .1 .0) in
     ((s .pre .1 .0, here), (omega arith, s .pre .1 .1 .1))
 
@@ -28,7 +30,7 @@ enter-requires c κs =
     let added = c .before .before .before .before .before .before .before .before .before .add-label .ensures in (
       s .pre .0,
       (
-        first-ready (a .map .now) (a .run) (s .pre .0) (c .before .before .before .before .before .before .before .before .before .before .before .before .before .before .before .before .before .before .before .start-of .ensures) (c .before .before .before .before .before .before .before .before .before .before .before .before .before .before .next-candidate .ensures) added (c .before .before .before .before .before .before .before .before .words .given),
+        first-ready (run-tied (a .map .now) (a .run)) (run-sound (a .map .now) (a .run) (s .pre .0)) (c .before .before .before .before .before .before .before .before .before .before .before .before .before .before .before .before .before .before .before .start-of .ensures) (c .before .before .before .before .before .before .before .before .before .before .before .before .before .before .next-candidate .ensures) added (c .before .before .before .before .before .before .before .before .words .given),
         entering (added .added) (tripIn (a .map .now) (a .run)) (λ k low high. absurd (omega arith)),
       ),
     )
@@ -37,7 +39,7 @@ returns : tie.Need-returns
 returns c =
     let s = c .before .before .before .before .before .before .before .before .before .before .before .before .before .before .before .before .before .before .before .before .before .before .before .before .before .before .before .before .before in
     let a = s .args in
-    begun (a .map .now) (a .run) (s .pre .0) (c .before .before .before .before .before .before .before .before .before .before .before .before .before .before .before .before .before .before .before .before .before .before .start-of .ensures) (c .before .before .before .before .before .before .before .before .before .before .before .before .before .before .before .before .before .next-candidate .ensures) (c .before .before .before .before .before .before .before .before .before .before .before .before .add-label .ensures) (c .before .before .enter .ensures)
+    begun (run-tied (a .map .now) (a .run)) (run-sound (a .map .now) (a .run) (s .pre .0)) (c .before .before .before .before .before .before .before .before .before .before .before .before .before .before .before .before .before .before .before .before .before .before .start-of .ensures) (c .before .before .before .before .before .before .before .before .before .before .before .before .before .before .before .before .before .next-candidate .ensures) (c .before .before .before .before .before .before .before .before .before .before .before .before .add-label .ensures) (c .before .before .enter .ensures)
     (omega (arith, c .before .before .before .before .before .before .before .before .before .heads .given, s .pre .1 .1 .0))
 
 pub begin-spec : {M : Type 1} → statement M

@@ -1,9 +1,8 @@
 use mathlib.Core.Path.{_∙_, sym, ap₂, subst, subst₂}
 use Prim.Native.Nat.{ℕ}
 use borrow.Author.Needs.{needs}
-use Rattle.roadmap.specs.Format.{junctionCount}
 use Rattle.states.specs.declared.State.{State}
-use Rattle.moves.specs.Runs.{InRange, tripIn}
+use Rattle.moves.specs.Runs.{tripIn, RangeIn}
 use Rattle.candidates.specs.Candidates.{resultAt, Names}
 use Rattle.search.proofs.candidate_at.Statement.{statement}
 use Rattle.search.proofs.candidate_at.Tie as tie
@@ -16,7 +15,7 @@ result-at-requires c κs =
     let is = c .before .read-label .ensures in (
       s .pre .0,
       (
-        subst (λ (z : State). InRange (junctionCount (a .map .now)) (a .run .order) z) (sym is) (S .range),
+        subst (RangeIn (tripIn (a .map .now) (a .run))) (sym is) (S .range),
         subst₂ (λ (z : State) (k : ℕ). Names (tripIn (a .map .now) (a .run)) z k) (sym is) (sym (c .cursor .ensures)) (S .cursor (s .pre .1 .2)),
       ),
     )

@@ -3,6 +3,7 @@ use Prim.Native.Nat.{_<_}
 use native.Mathlib.Omega.{arith}
 use lib.ListN.{length}
 use borrow.Author.Needs.{needs}
+use Rattle.moves.proofs.Rising.{run-sound}
 use Rattle.labels.specs.Lists.{Says}
 use Rattle.search.specs.Turns.{goes}
 use Rattle.search.proofs.Turning.{chosen-range}
@@ -23,8 +24,8 @@ covered-requires c κs =
     let U = s .pre .1 .0 in
     let lead = s .pre .1 .1 .0 in
     let candidate = c .before .before .before .before .candidate-at .result in
-    let won = leader-chosen (a .map .now) (a .run) (s .pre .0) U (a .w) candidate (lead .0) (lead .1) (lead .2) (c .before .before .before .before .candidate-at .ensures) in
-    let range = chosen-range (a .map .now) (a .run) U (a .w) candidate won (s .pre .0) in
+    let won = leader-chosen _ (run-sound (a .map .now) (a .run) (s .pre .0)) U (a .w) candidate (lead .0) (lead .1) (lead .2) (c .before .before .before .before .candidate-at .ensures) in
+    let range = chosen-range _ U (a .w) candidate won (run-sound (a .map .now) (a .run) (s .pre .0)) in
     let here : candidate .junction < length (a .heads .now) = omega (arith, range .high, U .wide) in
     (U .lists, here)
 
@@ -39,7 +40,7 @@ pass-over-requires c κs =
       (
         s .pre .1 .0,
         (
-          leader-chosen (a .map .now) (a .run) (s .pre .0) (s .pre .1 .0) (a .w) candidate (lead .0) (lead .1) (lead .2) (c .before .before .before .before .before .before .before .before .before .before .candidate-at .ensures),
+          leader-chosen _ (run-sound (a .map .now) (a .run) (s .pre .0)) (s .pre .1 .0) (a .w) candidate (lead .0) (lead .1) (lead .2) (c .before .before .before .before .before .before .before .before .before .before .candidate-at .ensures),
           says,
         ),
       ),
@@ -59,7 +60,7 @@ settle-requires c κs =
       (
         s .pre .1 .0,
         (
-          leader-chosen (a .map .now) (a .run) (s .pre .0) (s .pre .1 .0) (a .w) candidate (lead .0) (lead .1) (lead .2) (c .before .before .before .before .before .before .before .before .before .before .candidate-at .ensures),
+          leader-chosen _ (run-sound (a .map .now) (a .run) (s .pre .0)) (s .pre .1 .0) (a .w) candidate (lead .0) (lead .1) (lead .2) (c .before .before .before .before .before .before .before .before .before .before .candidate-at .ensures),
           (
             says,
             s .pre .1 .1 .1,

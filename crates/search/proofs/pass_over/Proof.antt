@@ -1,8 +1,8 @@
 use mathlib.Core.Path.{sym, subst}
 use borrow.Author.Needs.{needs}
-use Rattle.roadmap.specs.Format.{junctionCount}
 use Rattle.states.specs.declared.State.{State}
-use Rattle.moves.specs.Runs.{InRange, tripIn}
+use Rattle.moves.specs.Runs.{tripIn, RangeIn}
+use Rattle.moves.proofs.Rising.{run-sound}
 use Rattle.candidates.specs.declared.Bound.{Bound}
 use Rattle.candidates.specs.Candidates.{Cursor}
 use Rattle.labels.specs.LabelWords.{settled}
@@ -18,7 +18,7 @@ next-candidate-requires c κs =
     let U = s .pre .1 .0 in
     let won = s .pre .1 .1 .0 in
     let is = c .before .read-label .ensures in
-    (s .pre .0, (subst (λ (z : State). InRange (junctionCount (s .args .map .now)) (s .args .run .order) z) (sym is) (U .ready _ (won .low) (won .high) .range), (U .lists, U .wide)))
+    (s .pre .0, (subst (RangeIn (tripIn (s .args .map .now) (s .args .run))) (sym is) (U .ready _ (won .low) (won .high) .range), (U .lists, U .wide)))
 
 advance-requires : tie.Need-advance-requires
 advance-requires c κs =
@@ -37,8 +37,8 @@ returns c =
     let is = c .before .before .before .before .before .before .read-label .ensures in
     let next = subst (λ (z : State). NextIs (tripIn (a .map .now) (a .run)) (settled (a .words .now) (a .n)) z (Bound.Above (a .candidate)) (c .before .before .before .before .next-candidate .result)) is (c .before .before .before .before .next-candidate .ensures) in
     record {
-      underway = passed-over (a .map .now) (a .run) U (a .w) (a .candidate) won _ _ (s .pre .1 .1 .1) next (c .before .before .advance .ensures);
-      higher = root-rises (a .map .now) (a .run) (s .pre .0) U (a .w) (a .candidate) won _ _ next (c .before .before .advance .ensures);
+      underway = passed-over _ U (a .w) (a .candidate) won _ _ (s .pre .1 .1 .1) next (c .before .before .advance .ensures);
+      higher = root-rises _ (run-sound (a .map .now) (a .run) (s .pre .0)) U (a .w) (a .candidate) won _ _ next (c .before .before .advance .ensures);
     }
 
 pub pass-over-spec : {M : Type 1} → statement M

@@ -2,6 +2,9 @@
 use mathlib.Core.Path.{_≡_}
 use native.Mathlib.Omega.{arith}
 use borrow.Author.Needs.{needs}
+use Rattle.moves.specs.Runs.{tripIn}
+use Rattle.moves.proofs.Trips.{run-tied}
+use Rattle.moves.proofs.Rising.{run-sound}
 use Rattle.search.specs.Turns.{found}
 use Rattle.search.proofs.Beginning.{begins-home, begins-away}
 use Rattle.search.proofs.search_labels.Statement.{statement}
@@ -10,21 +13,21 @@ use Rattle.search.proofs.search_labels.Tie as tie
 begin-requires : tie.Need-begin-requires
 begin-requires c κs =
     let s = c .before .before .before .before .before .before .before .before .before .before .before .before .before in
-    (s .pre .0, (c .before .before .before .before .before .before .before .clear-lists .ensures (s .args .words .now), (omega (arith, s .pre .0 .sized .few-junctions, s .pre .0 .sized .junctions, c .before .before .before .before .before .before .heads2 .given), omega (arith, s .pre .1 .0, s .pre .1 .2))))
+    (s .pre .0, (c .before .before .before .before .before .before .before .clear-lists .ensures (s .args .words .now), (omega (arith, run-sound (s .args .map .now) (s .args .run) (s .pre .0) .few, c .before .before .before .before .before .before .heads2 .given), omega (arith, s .pre .1 .0, s .pre .1 .2))))
 
 returns : tie.Need-returns
 returns c =
     let s = c .before .before .before .before .before .before .before .before .before .before .before .before .before .before .before .before .before .before .before .before .before in
     let a = s .args in
-    let same : a .run .order .source ≡ a .run .order .target = c .if1 .taken in
-    found (begins-home (a .map .now) (a .run) same (c .before .before .before .before .before .before .before .begin .ensures) (omega (arith, s .pre .1 .0, s .pre .1 .2, c .before .before .before .before .before .before .words .given))) (s .pre .1 .0)
+    let same : tripIn (a .map .now) (a .run) .order .source ≡ tripIn (a .map .now) (a .run) .order .target = rw (run-tied (a .map .now) (a .run) .order) (c .if1 .taken) in
+    found (begins-home _ same (c .before .before .before .before .before .before .before .begin .ensures) (omega (arith, s .pre .1 .0, s .pre .1 .2, c .before .before .before .before .before .before .words .given))) (s .pre .1 .0)
 
 settle-all-requires : tie.Need-settle-all-requires
 settle-all-requires c κs =
     let s = c .before .before .before .before .before .before .before .before .before .before .before .before .before .before .before .before .before .before .before .before .before .before .before .before .before in
     let a = s .args in
-    let apart : (a .run .order .source ≡ a .run .order .target → ⊥) = c .before .before .before .before .if1 .left in
-    (s .pre .0, (begins-away (a .map .now) (a .run) apart (c .before .before .before .before .before .before .before .before .before .before .before .begin .ensures), (s .pre .1 .0, s .pre .1 .1, omega (arith, s .pre .1 .2, c .before .before .before .before .before .before .before .before .before .before .words .given))))
+    let apart : (tripIn (a .map .now) (a .run) .order .source ≡ tripIn (a .map .now) (a .run) .order .target → ⊥) = rw (run-tied (a .map .now) (a .run) .order) (c .before .before .before .before .if1 .left) in
+    (s .pre .0, (begins-away _ apart (c .before .before .before .before .before .before .before .before .before .before .before .begin .ensures), (s .pre .1 .0, s .pre .1 .1, omega (arith, s .pre .1 .2, c .before .before .before .before .before .before .before .before .before .before .words .given))))
 
 pub search-labels-spec : {M : Type 1} → statement M
 search-labels-spec =

@@ -2,6 +2,9 @@ use mathlib.Core.Path.{_≡_}
 use Prim.Native.Nat.{_+_, _≤_}
 use native.Mathlib.Omega.{arith}
 use borrow.Author.Needs.{needs}
+use Rattle.moves.specs.Runs.{tripIn}
+use Rattle.moves.proofs.Trips.{run-tied}
+use Rattle.moves.proofs.Rising.{run-sound}
 use Rattle.search.specs.Turns.{goes, found, full}
 use Rattle.search.proofs.Turning.{chosen-range}
 use Rattle.search.proofs.Stopping.{more-labels}
@@ -14,7 +17,7 @@ returns c =
     let s = c .before .before .before .before .before .before in
     let a = s .args in
     let last : a .n ≡ a .fit = c .if1 .taken in
-    full (omega (arith, last, more-labels (a .map .now) (a .run) (s .pre .0) (s .pre .1 .0) (a .w) (a .candidate) (s .pre .1 .1 .0) (s .pre .1 .1 .1 .0)))
+    full (omega (arith, last, more-labels _ (run-sound (a .map .now) (a .run) (s .pre .0)) (s .pre .1 .0) (a .w) (a .candidate) (s .pre .1 .1 .0) (s .pre .1 .1 .1 .0)))
 
 settle-last-requires : tie.Need-settle-last-requires
 settle-last-requires c κs =
@@ -25,7 +28,7 @@ settle-last-requires c κs =
     let room = s .pre .1 .1 .1 .1 in
     let short : (a .n ≡ a .fit → ⊥) = c .before .before .before .before .before .before .before .if1 .left in
     let more : a .n + 1 ≤ a .fit = omega (arith, short, room .0) in
-    let range = chosen-range (a .map .now) (a .run) U (a .w) (a .candidate) won (s .pre .0) in (
+    let range = chosen-range _ U (a .w) (a .candidate) won (run-sound (a .map .now) (a .run) (s .pre .0)) in (
       (U .lists, omega (arith, range .high, U .wide)),
       (omega (arith, more, room .1), omega (arith, more, room .2), won .high),
     )
@@ -36,9 +39,9 @@ returns-2 c =
     let a = s .args in
     let room = s .pre .1 .1 .1 .1 in
     let short : (a .n ≡ a .fit → ⊥) = c .before .before .before .before .before .before .before .before .before .before .before .before .before .before .before .before .if1 .left in
-    let home : a .candidate .junction ≡ a .run .order .target = c .before .before .before .before .before .before .before .before .before .before .before .before .before .if2 .taken in
+    let home : a .candidate .junction ≡ tripIn (a .map .now) (a .run) .order .target = rw (run-tied (a .map .now) (a .run) .order) (c .before .before .before .before .before .before .before .before .before .before .before .before .before .if2 .taken) in
     found
-    (reaches (a .map .now) (a .run) (s .pre .0) (s .pre .1 .0) (a .w) (a .candidate) (s .pre .1 .1 .0) (s .pre .1 .1 .1 .0) home (c .before .before .before .before .before .before .before .before .settle-last .ensures))
+    (reaches _ (run-sound (a .map .now) (a .run) (s .pre .0)) (s .pre .1 .0) (a .w) (a .candidate) (s .pre .1 .1 .0) (s .pre .1 .1 .1 .0) home (c .before .before .before .before .before .before .before .before .settle-last .ensures))
     (omega (arith, short, room .0))
 
 settle-label-requires : tie.Need-settle-label-requires
@@ -48,9 +51,9 @@ settle-label-requires c κs =
     let room = s .pre .1 .1 .1 .1 in
     let short : (a .n ≡ a .fit → ⊥) = c .before .before .before .before .before .before .before .if1 .left in
     let more : a .n + 1 ≤ a .fit = omega (arith, short, room .0) in
-    let out : (a .candidate .junction ≡ a .run .order .target → ⊥) = c .before .before .before .before .if2 .left in (
+    let out : (a .candidate .junction ≡ tripIn (a .map .now) (a .run) .order .target → ⊥) = rw (run-tied (a .map .now) (a .run) .order) (c .before .before .before .before .if2 .left) in (
       s .pre .0,
-      (s .pre .1 .0, (s .pre .1 .1 .0, ((s .pre .1 .1 .1 .0, not-home (a .map .now) (a .run) (a .candidate) out), (omega (arith, more, room .1), omega (arith, more, room .2))))),
+      (s .pre .1 .0, (s .pre .1 .1 .0, ((s .pre .1 .1 .1 .0, not-home _ (a .candidate) out), (omega (arith, more, room .1), omega (arith, more, room .2))))),
     )
 
 add-t30 : tie.Need-add-t30

@@ -4,6 +4,7 @@ use Prim.Native.Nat.{_-_}
 use native.Mathlib.Omega.{arith}
 use borrow.Author.Needs.{needs}
 use Rattle.moves.specs.Runs.{tripIn}
+use Rattle.moves.proofs.Rising.{run-sound}
 use Rattle.labels.specs.LabelWords.{winnerOf}
 use Rattle.winners.specs.Keys.{noKey, keyAt}
 use Rattle.search.specs.Turns.{TurnSays}
@@ -12,7 +13,7 @@ use Rattle.search.proofs.settle_all.Statement.{statement}
 use Rattle.search.proofs.settle_all.Tie as tie
 
 abbrev Inv-loop : tie.InvT-loop
-Inv-loop map run words₀ heads₀ spells₀ shifts₀ fit n₀ words heads spells shifts n = Between map run words₀ heads₀ spells₀ shifts₀ words heads spells shifts fit n
+Inv-loop map run words₀ heads₀ spells₀ shifts₀ fit n₀ words heads spells shifts n = Between (tripIn map run) words₀ heads₀ spells₀ shifts₀ words heads spells shifts fit n
 
 abbrev μ-loop : tie.MeasureT-loop
 μ-loop map run words₀ heads₀ spells₀ shifts₀ fit n₀ words heads spells shifts n = noKey - keyAt (tripIn map run) words (winnerOf words 1)
@@ -31,23 +32,23 @@ take-turn-requires c κs =
 loop-less : tie.Need-loop-less Inv-loop μ-loop
 loop-less c =
     let s = c .before .before .before .before .before .before .before .before .before .before .before .before .before .before .before .before .before .before .before .before .before .before in
-    key-left (s .args .map .now) (s .args .run) (s .pre .0) (subst (TurnSays _ _ _ _ _ _ _ _ _) (c .before .turn .given .1) (c .before .before .before .before .before .before .before .before .before .before .before .take-turn .ensures))
+    key-left _ (run-sound (s .args .map .now) (s .args .run) (s .pre .0)) (subst (TurnSays _ _ _ _ _ _ _ _) (c .before .turn .given .1) (c .before .before .before .before .before .before .before .before .before .before .before .take-turn .ensures))
 
 loop-again : tie.Need-loop-again Inv-loop μ-loop
 loop-again c =
-    between-next (c .before .before .before .before .before .before .before .before .before .before .before .before .before .before .before .before .loop .inv) (c .before .before .before .before .before .before .before .before .before .before .words .given) (c .before .before .before .before .before .before .before .before .heads .given) (c .before .before .before .before .before .before .spells .given) (c .before .before .before .before .shifts .given) (subst (TurnSays _ _ _ _ _ _ _ _ _) (c .before .turn .given .1) (c .before .before .before .before .before .before .before .before .before .before .before .take-turn .ensures))
+    between-next (c .before .before .before .before .before .before .before .before .before .before .before .before .before .before .before .before .loop .inv) (c .before .before .before .before .before .before .before .before .before .before .words .given) (c .before .before .before .before .before .before .before .before .heads .given) (c .before .before .before .before .before .before .spells .given) (c .before .before .before .before .shifts .given) (subst (TurnSays _ _ _ _ _ _ _ _) (c .before .turn .given .1) (c .before .before .before .before .before .before .before .before .before .before .before .take-turn .ensures))
 
 add-t19 : tie.Need-add-t19 Inv-loop μ-loop
 add-t19 c = let s = c .before .before .before .before .before .before .before .before .before .before .before .before .before .before .before .before .before .before .before .before .before in omega (arith, c .before .before .before .before .before .before .before .before .before .before .before .before .before .before .before .loop .inv .fits, s .pre .1 .1 .1)
 
 returns : tie.Need-returns Inv-loop μ-loop
-returns c = outcome-found (subst (TurnSays _ _ _ _ _ _ _ _ _) (c .enum-told .given .1) (c .before .before .before .before .before .before .before .before .before .before .take-turn .ensures))
+returns c = outcome-found (subst (TurnSays _ _ _ _ _ _ _ _) (c .enum-told .given .1) (c .before .before .before .before .before .before .before .before .before .before .take-turn .ensures))
 
 returns-2 : tie.Need-returns-2 Inv-loop μ-loop
-returns-2 c = outcome-exhausted (c .before .before .before .before .before .before .before .before .before .before .before .before .before .before .before .loop .inv .fits) (subst (TurnSays _ _ _ _ _ _ _ _ _) (c .enum-told2 .given .1) (c .before .before .before .before .before .before .before .before .before .before .take-turn .ensures))
+returns-2 c = outcome-exhausted (c .before .before .before .before .before .before .before .before .before .before .before .before .before .before .before .loop .inv .fits) (subst (TurnSays _ _ _ _ _ _ _ _) (c .enum-told2 .given .1) (c .before .before .before .before .before .before .before .before .before .before .take-turn .ensures))
 
 returns-3 : tie.Need-returns-3 Inv-loop μ-loop
-returns-3 c = outcome-full (subst (TurnSays _ _ _ _ _ _ _ _ _) (c .enum-told3 .given .1) (c .before .before .before .before .before .before .before .before .before .before .take-turn .ensures))
+returns-3 c = outcome-full (subst (TurnSays _ _ _ _ _ _ _ _) (c .enum-told3 .given .1) (c .before .before .before .before .before .before .before .before .before .before .take-turn .ensures))
 
 same-length : tie.Need-same-length Inv-loop μ-loop
 same-length c = c .before .before .before .before .before .before .before .before .before .words .given ∙ c .before .before .before .before .before .before .before .before .before .before .before .before .before .before .before .loop .inv .long-words

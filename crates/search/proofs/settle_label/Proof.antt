@@ -15,7 +15,7 @@ next-candidate-requires c κs =
     let a = s .args in
     let U = s .pre .1 .0 in
     let won = s .pre .1 .1 .0 in
-    (s .pre .0, (chosen-range (a .map .now) (a .run) U (a .w) (a .candidate) won (s .pre .0), (U .lists, U .wide)))
+    (s .pre .0, (chosen-range _ U (a .w) (a .candidate) won (run-sound (a .map .now) (a .run) (s .pre .0)), (U .lists, U .wide)))
 
 cast-add-label : tie.Need-cast-add-label
 cast-add-label c =
@@ -28,7 +28,7 @@ add-label-requires c κs =
     let a = s .args in
     let U = s .pre .1 .0 in
     let won = s .pre .1 .1 .0 in
-    let range = chosen-range (a .map .now) (a .run) U (a .w) (a .candidate) won (s .pre .0) in
+    let range = chosen-range _ U (a .w) (a .candidate) won (run-sound (a .map .now) (a .run) (s .pre .0)) in
     let here : a .candidate .junction < length (a .heads .now) = omega (arith, range .high, U .wide) in
     ((U .lists, here), s .pre .1 .1 .1 .1)
 
@@ -39,7 +39,7 @@ enter-requires c κs =
     let U = s .pre .1 .0 in
     let won = s .pre .1 .1 .0 in
     let added = c .before .before .before .before .before .before .before .before .before .add-label .ensures in
-    (s .pre .0, (ready-now (a .map .now) (a .run) U (a .w) (a .candidate) won (s .pre .0) _ _ _ _ _ (s .pre .1 .1 .1 .1 .0) (c .before .before .before .before .before .before .before .before .before .before .before .before .before .before .next-candidate .ensures) added, entering (added .added) (tripIn (a .map .now) (a .run)) (U .tree)))
+    (s .pre .0, (ready-now _ U (a .w) (a .candidate) won (run-sound (a .map .now) (a .run) (s .pre .0)) _ _ _ _ _ (s .pre .1 .1 .1 .1 .0) (c .before .before .before .before .before .before .before .before .before .before .before .before .before .before .next-candidate .ensures) added, entering (added .added) (tripIn (a .map .now) (a .run)) (U .tree)))
 
 add-pass-over : tie.Need-add-pass-over
 add-pass-over c =
@@ -59,10 +59,10 @@ pass-over-requires c κs =
     let new = s .pre .1 .1 .1 .0 in (
       s .pre .0,
       (
-        settles (a .map .now) (a .run) U (a .w) (a .candidate) won sound (new .0) (new .1) _ _ _ _ _ _ next added mended (c .before .before .before .before .before .before .before .before .before .before .before .before .before .heads .given),
+        settles _ U (a .w) (a .candidate) won sound (new .0) (new .1) _ _ _ _ _ _ next added mended (c .before .before .before .before .before .before .before .before .before .before .before .before .before .heads .given),
         (
-          still-chosen (a .map .now) (a .run) U (a .w) (a .candidate) won sound (new .0) (new .1) _ _ _ _ _ _ next added mended,
-          settled-now (a .map .now) (a .run) U (a .w) (a .candidate) won sound (new .0) (new .1) _ _ _ _ _ _ next added mended,
+          still-chosen _ U (a .w) (a .candidate) won sound (new .0) (new .1) _ _ _ _ _ _ next added mended,
+          settled-now _ U (a .w) (a .candidate) won sound (new .0) (new .1) _ _ _ _ _ _ next added mended,
         ),
       ),
     )
@@ -76,7 +76,7 @@ returns c =
     let sound = run-sound (a .map .now) (a .run) (s .pre .0) in
     let added = c .before .before .before .before .before .before .before .before .before .before .before .before .before .before .before .before .before .before .before .add-label .ensures in
     let new = s .pre .1 .1 .1 .0 in
-    onward-as (key-same (a .map .now) (a .run) U (a .w) (a .candidate) won sound (new .0) (new .1) _ _ _ _ _ _ (c .before .before .before .before .before .before .before .before .before .before .before .before .before .before .before .before .before .before .before .before .before .before .before .before .next-candidate .ensures) added (c .before .before .before .before .before .before .before .before .before .enter .ensures)) (c .before .before .pass-over .ensures)
+    onward-as (key-same _ U (a .w) (a .candidate) won sound (new .0) (new .1) _ _ _ _ _ _ (c .before .before .before .before .before .before .before .before .before .before .before .before .before .before .before .before .before .before .before .before .before .before .before .before .next-candidate .ensures) added (c .before .before .before .before .before .before .before .before .before .enter .ensures)) (c .before .before .pass-over .ensures)
 
 pub settle-label-spec : {M : Type 1} → statement M
 settle-label-spec =

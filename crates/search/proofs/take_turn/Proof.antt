@@ -3,6 +3,7 @@ use Prim.Native.Nat.{_≤_}
 use native.Mathlib.Omega.{arith}
 use borrow.Author.Needs.{needs}
 use Rattle.moves.specs.Runs.{tripIn}
+use Rattle.moves.proofs.Rising.{run-sound}
 use Rattle.labels.specs.LabelWords.{cursorOf}
 use Rattle.winners.specs.Mending.{LeastKey}
 use Rattle.search.specs.Turns.{exhausted}
@@ -17,7 +18,7 @@ returns c =
     let U = s .pre .1 .0 in
     let none : c .before .leading .result ≡ 0 = c .if1 .taken in
     let lead = c .before .leading .ensures (tripIn (a .map .now) (a .run)) (U .tree) in
-    exhausted (leader-none (a .map .now) (a .run) (s .pre .0) U (subst (LeastKey (tripIn (a .map .now) (a .run)) (a .words .now) (a .n)) none lead))
+    exhausted (leader-none _ (run-sound (a .map .now) (a .run) (s .pre .0)) U (subst (LeastKey (tripIn (a .map .now) (a .run)) (a .words .now) (a .n)) none lead))
 
 cursor-requires : tie.Need-cursor-requires
 cursor-requires c κs =
@@ -35,7 +36,7 @@ returns-2 c =
     let a = s .args in
     let U = s .pre .1 .0 in
     let lead = c .before .before .before .before .leading .ensures (tripIn (a .map .now) (a .run)) (U .tree) in
-    exhausted (leader-shut (a .map .now) (a .run) (s .pre .0) U _ lead (sym (c .before .cursor .ensures) ∙ c .if2 .taken))
+    exhausted (leader-shut _ (run-sound (a .map .now) (a .run) (s .pre .0)) U _ lead (sym (c .before .cursor .ensures) ∙ c .if2 .taken))
 
 offer-requires : tie.Need-offer-requires
 offer-requires c κs =
@@ -55,7 +56,7 @@ returns-3 c =
     let U = s .pre .1 .0 in
     let some : (c .before .before .before .before .before .before .before .before .before .before .before .before .before .before .before .before .before .leading .result ≡ 0 → ⊥) = c .before .before .before .before .before .before .before .before .before .before .before .before .before .before .before .before .if1 .left in
     let lead = c .before .before .before .before .before .before .before .before .before .before .before .before .before .before .before .before .before .leading .ensures (tripIn (a .map .now) (a .run)) (U .tree) in
-    says-below (root-least (a .map .now) (a .run) (s .pre .0) U _ (omega (arith, some)) (lead .within)) (c .before .before .before .before .before .before .before .before .offer .ensures)
+    says-below (root-least _ (run-sound (a .map .now) (a .run) (s .pre .0)) U _ (omega (arith, some)) (lead .within)) (c .before .before .before .before .before .before .before .before .offer .ensures)
 
 pub take-turn-spec : {M : Type 1} → statement M
 take-turn-spec =

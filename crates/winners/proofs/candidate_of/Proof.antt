@@ -4,6 +4,7 @@ use native.Mathlib.Omega.{arith}
 use borrow.Author.Needs.{needs}
 use Rattle.states.specs.declared.State.{State}
 use Rattle.moves.specs.Runs.{tripIn}
+use Rattle.moves.proofs.Rising.{run-sound}
 use Rattle.candidates.specs.Candidates.{resultAt}
 use Rattle.winners.proofs.Contenders.{named-none, named-shut, named-live}
 use Rattle.winners.proofs.candidate_of.Statement.{statement}
@@ -46,7 +47,7 @@ returns-3 c =
     let low : 1 ≤ s .args .k = omega (arith, c .before .before .before .before .if1 .left) in
     let trip = tripIn (s .args .map .now) (s .args .run) in
     let cursor = c .before .before .before .cursor .result in
-    named-live (s .args .map .now) (s .args .run) (s .args .words .now) (s .args .k) cursor (c .result-at .result) (s .pre .0) low (s .pre .1 low) (c .before .before .before .cursor .ensures) (omega (arith, c .before .before .if2 .left))
+    named-live trip (run-sound (s .args .map .now) (s .args .run) (s .pre .0)) (s .args .words .now) (s .args .k) cursor (c .result-at .result) low (s .pre .1 low) (c .before .before .before .cursor .ensures) (omega (arith, c .before .before .if2 .left))
     (c .result-at .ensures ∙ ap (λ (x : State). resultAt trip x cursor) (c .before .read-label .ensures))
 
 pub candidate-of-spec : {M : Type 1} → statement M

@@ -3,13 +3,14 @@ use mathlib.Core.Path.{_∙_, refl, subst}
 use native.Mathlib.Omega.{arith}
 use native.Mathlib.Nat.{le-refl}
 use borrow.Author.Tests.{not-true, not-false}
+use Rattle.moves.specs.Runs.{tripIn}
 use Rattle.winners.specs.Mending.{Placed}
 use Rattle.winners.proofs.Steps.{only-refl, Entered, entered-more, entered-done, entered-end}
 use Rattle.winners.proofs.enter.Statement.{statement}
 use Rattle.winners.proofs.enter.Tie as tie
 
 abbrev Inv-loop : tie.InvT-loop
-Inv-loop map run words₀ n new j₀ words j = Entered map run words₀ words n j new
+Inv-loop map run words₀ n new j₀ words j = Entered (tripIn map run) words₀ words n j new
 
 abbrev μ-loop : tie.MeasureT-loop
 μ-loop map run words₀ n new j₀ words j = j
@@ -35,13 +36,13 @@ same-length : tie.Need-same-length Inv-loop μ-loop
 same-length c = c .before .before .before .place .ensures .long ∙ c .before .before .before .before .before .before .loop .inv .long
 
 returns : tie.Need-returns Inv-loop μ-loop
-returns c = entered-done (c .before .before .before .before .before .before .loop .inv) (subst (Placed _ _ _ _ _ _ _) (not-true _ (c .if1 .taken)) (c .before .before .before .place .ensures))
+returns c = entered-done (c .before .before .before .before .before .before .loop .inv) (subst (Placed _ _ _ _ _ _) (not-true _ (c .if1 .taken)) (c .before .before .before .place .ensures))
 
 loop-less : tie.Need-loop-less Inv-loop μ-loop
 loop-less c = omega (arith, c .before .before .before .before .before .loop-test .taken)
 
 loop-again : tie.Need-loop-again Inv-loop μ-loop
-loop-again c = entered-more (c .before .before .before .before .before .before .loop .inv) (subst (Placed _ _ _ _ _ _ _) (not-false _ (c .if1 .left)) (c .before .before .before .place .ensures))
+loop-again c = entered-more (c .before .before .before .before .before .before .loop .inv) (subst (Placed _ _ _ _ _ _) (not-false _ (c .if1 .left)) (c .before .before .before .place .ensures))
 
 same-length-2 : tie.Need-same-length-2 Inv-loop μ-loop
 same-length-2 c = c .before .loop .inv .long

@@ -1,13 +1,14 @@
 -- The winner below node j is carried up to the root.
 use mathlib.Core.Path.{_∙_}
 use native.Mathlib.Omega.{arith}
+use Rattle.moves.specs.Runs.{tripIn}
 use Rattle.winners.specs.Mending.{Climbed}
 use Rattle.winners.proofs.Steps.{afresh, onward, mended}
 use Rattle.winners.proofs.mend.Statement.{statement}
 use Rattle.winners.proofs.mend.Tie as tie
 
 abbrev Inv-loop : tie.InvT-loop
-Inv-loop map run words₀ n i best₀ j₀ words best j = Climbed map run words₀ words n j best
+Inv-loop map run words₀ n i best₀ j₀ words best j = Climbed (tripIn map run) words₀ words n j best
 
 abbrev μ-loop : tie.MeasureT-loop
 μ-loop map run words₀ n i best₀ j₀ words best j = j

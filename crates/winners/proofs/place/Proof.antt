@@ -3,6 +3,7 @@ use Prim.Native.Nat.{ℕ}
 use native.Mathlib.Omega.{arith}
 use borrow.Author.Needs.{needs}
 use Rattle.moves.specs.Runs.{tripIn}
+use Rattle.moves.proofs.Rising.{run-sound}
 use Rattle.labels.specs.LabelWords.{winnerOf}
 use Rattle.winners.specs.Mending.{Named}
 use Rattle.winners.proofs.Steps.{old-within, stays, wins}
@@ -28,7 +29,7 @@ named c =
     subst (λ (x : ℕ). Named (tripIn (s .args .map .now) (s .args .run)) (s .args .words .now) x (c .candidate-of .result)) (c .before .winner .ensures) (c .candidate-of .ensures)
 
 returns : tie.Need-returns
-returns c = let s = c .before .before .before .before .before .before .before .before .before in stays (s .pre .1 .0) (s .pre .1 .1) (named (c .before .before .before .before)) (c .before .before .before .better .ensures) (s .pre .0) (c .if1 .taken)
+returns c = let s = c .before .before .before .before .before .before .before .before .before in stays (s .pre .1 .0) (s .pre .1 .1) (named (c .before .before .before .before)) (c .before .before .before .better .ensures) (run-sound (s .args .map .now) (s .args .run) (s .pre .0)) (c .if1 .taken)
 
 cast-set-winner : tie.Need-cast-set-winner
 cast-set-winner c = omega (arith, c .before .before .before .before .before .before .before .before .before .before .before .pre .1 .0 .named .stands .fit .label)
