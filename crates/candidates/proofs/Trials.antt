@@ -1,107 +1,177 @@
 -- The best of the cursors tried, one after the other. Assumes nothing.
-use mathlib.Core.Path.{_≡_, _∙_, sym, ap}
+use mathlib.Core.Path.{_≡_, _∙_, refl, sym, subst}
 use mathlib.Core.Bool.{Bool, true, false, not}
-use mathlib.Core.List.{List}
+use mathlib.Core.List.{List, List·Memᴰ·not-nil}
 use mathlib.Core.Logic.{⊎-elim}
 use Prim.Native.Nat.{ℕ, _+_, _≤_, _<_}
 use native.Mathlib.Omega.{arith}
 use native.Mathlib.Nat.{eq-or-lt-of-le}
 use borrow.Author.Tests.{ltb-true, ltb-false}
 use lib.Dec.{T, T-not, not-T, ltb}
-use Rattle.booleans.proofs.Tests.{cases, not-both, T-true, true-T}
-use Rattle.driving.specs.declared.Order.{Order}
-use Rattle.driving.specs.Hours.{lastPause}
-use Rattle.states.specs.declared.State.{State}
-use Rattle.moves.specs.Trip.{Trip, roadsIn}
-use Rattle.moves.specs.Moves.{offers}
-use Rattle.states.specs.States.{legal, ranksNoHigher}
+use Rattle.booleans.proofs.Tests.{cases, true-T}
+use Rattle.theory.specs.States.{Covered}
 use Rattle.theory.proofs.Sorting.{le-of-not, never-self}
-use Rattle.states.proofs.Compared.{rank-order}
-use Rattle.labels.specs.Lists.{Says}
-use Rattle.candidates.specs.declared.Bound.{Bound}
-use Rattle.candidates.specs.declared.Best.{Best}
-use Rattle.candidates.specs.Candidates.{moveAt, resultAt, Names}
-use Rattle.candidates.specs.Next.{aboveBound}
-use Rattle.candidates.specs.Trying.{BelowBest, Beats, Weighed, taken, kept, BestBelow}
+use Rattle.states.specs.declared.State.{State}
+use Rattle.states.specs.States.{covers, ranksNoHigher}
+use Rattle.states.proofs.Compared.{rank-order, lower-clock, rank-clock, legal-clock}
+use Rattle.moves.specs.Trip.{Trip}
+use Rattle.moves.specs.Runs.{SoundTrip}
+use Rattle.labels.specs.declared.Candidate.{Candidate}
+use Rattle.labels.specs.LabelWords.{settled}
+use Rattle.candidates.specs.Candidates.{resultAt, Names, noCandidate, Fitting}
+use Rattle.candidates.specs.Next.{above}
+use Rattle.candidates.specs.Trying.{Before, Follows, Apart, Other, BestBelow, Joined, same, higher, lower}
+use Rattle.candidates.proofs.Results.{clock-some, clock-none, junction-some, junction-none}
 
 -- where b does not rank at or below t, t ranks below b
 pub is-lower : (b t : State) → ranksNoHigher b t ≡ false → T (not (ranksNoHigher b t))
 is-lower b t e = rw e tt
 
-pub below-none : (best : Best) (t : State) → best .cursor ≤ 0 → BelowBest best t
-below-none best t none = λ some. absurd (omega arith)
+-- what ranks below t, which ranks no higher than b, ranks below b
+pub below-below : (b t x : State) → T (ranksNoHigher t b) → T (not (ranksNoHigher t x)) → T (not (ranksNoHigher b x))
+below-below b t x p q = not-T (ranksNoHigher b x) (λ h. T-not (ranksNoHigher t x) q (rank-order .trans t b x p h))
 
-module _ (order : Order) (bound : Bound) (best : Best) (t : State) where
-  pub unlawful : legal order t ≡ false → Beats order bound best t → ⊥
-  unlawful e better = not-both (better .lawful) e
+-- what ranks below the best is apart from it
+pub below-apart : (more : Bool) (b t : State) → T (not (ranksNoHigher b t)) → Apart more b t
+below-apart true b t below = below
+below-apart false b t below = λ e. never-self rank-order b t e below
 
-  pub no-lower : 1 ≤ best .cursor → ranksNoHigher (best .state) t ≡ true → Beats order bound best t → ⊥
-  no-lower some e better = T-not (ranksNoHigher (best .state) t) (better .below some) (true-T e)
+-- the best is not apart from itself
+self-apart : (more : Bool) (b t : State) → b ≡ t → Apart more b t → ⊥
+self-apart true b t e apart = never-self rank-order b t e apart
+self-apart false b t e apart = apart e
 
-  -- of a legal state below the best the bound decides
-  pub by-bound : legal order t ≡ true → BelowBest best t → (b : Bool) → b ≡ aboveBound bound t → Says (Beats order bound best t) b
-  by-bound lawful below true e = record { lawful = lawful; above = true-T (sym e); below = below }
-  by-bound lawful below false e = λ better. not-both (T-true (better .above)) (sym e)
+-- By clocks: that of a legal state is below the clock of no candidate.
+module _ {trip : Trip} (sound : SoundTrip trip) {s : State} {best : Candidate} (held : Fitting trip s best) {cursor : ℕ} (named : Names trip s cursor) where
+  abbrev before : State
+  before = resultAt trip s (best .cursor)
 
--- what ranks below t, which ranks below b, ranks below b
-below-below : (b t x : State) → T (not (ranksNoHigher b t)) → T (not (ranksNoHigher t x)) → T (not (ranksNoHigher b x))
-below-below b t x p q =
-    not-T (ranksNoHigher b x)
-    (λ h. T-not (ranksNoHigher b t) p (rank-order .trans b x t h (le-of-not rank-order x t q)))
+  abbrev this : State
+  this = resultAt trip s cursor
 
-module _ (trip : Trip) (labels : List State) (s : State) (bound : Bound) where
-  -- nothing is tried yet
-  pub tried-none : (t : State) → BestBelow trip labels s bound 1 (record { cursor = 0; state = t })
-  tried-none t =
+  pub some-best : best .clock ≤ this .clock .0 → 1 ≤ best .cursor
+  some-best late =
+      ⊎-elim
+      (λ (some : ltb 0 (best .cursor) ≡ true). ltb-true _ _ some)
+      (λ (none : ltb 0 (best .cursor) ≡ false).
+      absurd (omega (arith, held .clock, clock-none trip s (best .cursor) (ltb-false _ _ none), legal-clock (trip .order) this (named .lawful), sound .ordered .latest-high)))
+      (cases (ltb 0 (best .cursor)))
+
+  pub later-higher : best .clock < this .clock .0 → T (ranksNoHigher before this)
+  later-higher late = lower-clock _ _ (omega (arith, held .clock, clock-some trip s (best .cursor) (some-best (omega arith))))
+
+  pub joined-higher : best .clock < this .clock .0 → Joined trip s best cursor (record { cursor = best .cursor; junction = best .junction; clock = best .clock; more = true })
+  joined-higher late = higher (some-best (omega arith)) (later-higher late)
+
+  pub joined-lower : {junction clock : ℕ} {more : Bool} → junction ≡ this .junction → clock ≡ this .clock .0 → clock < best .clock → (1 ≤ best .cursor → more ≡ true)
+      → Joined trip s best cursor (record { cursor = cursor; junction = junction; clock = clock; more = more })
+  joined-lower there is early told =
+      lower _ _ _ there is
+      (λ some. (not-T (ranksNoHigher before this) (λ ranks. omega (arith, rank-clock before this ranks, held .clock, clock-some trip s (best .cursor) some)), told some))
+
+-- no candidate fits every state
+pub no-fit : (trip : Trip) (s : State) → Fitting trip s noCandidate
+no-fit trip s = record { named = λ some. absurd (omega arith); clock = sym (clock-none trip s 0 (omega arith)); junction = sym (junction-none trip s 0 (omega arith)) }
+
+-- nothing is tried yet
+pub tried-none : (trip : Trip) (labels : List State) (s bound : State) → BestBelow trip labels s bound 1 noCandidate
+tried-none trip labels s bound =
+    record {
+      found = record {
+        held = no-fit trip s;
+        higher = λ some. absurd (omega arith);
+        uncovered = λ some. absurd (omega arith);
+      };
+      passed = λ c before other. absurd (omega (arith, before (omega arith), other .named .low));
+    }
+
+-- cursors passed over need no trial
+pub tried-over : {trip : Trip} {labels : List State} {s bound : State} {cursor next : ℕ} {best : Candidate} → Follows trip s cursor next → BestBelow trip labels s bound (cursor + 1) best
+    → BestBelow trip labels s bound next best
+tried-over {cursor = cursor} follows tried =
+    record {
+      found = tried .found;
+      passed = λ c before other.
+          ⊎-elim
+          (λ (past : ltb cursor c ≡ true). absurd (follows .over c (ltb-true cursor c past) before (other .named)))
+          (λ (upto : ltb cursor c ≡ false). tried .passed c (λ some. omega (arith, ltb-false cursor c upto)) other)
+          (cases (ltb cursor c));
+    }
+
+-- One more is tried.
+module _ {trip : Trip} {labels : List State} {s bound : State} {cursor : ℕ} {best : Candidate} (tried : BestBelow trip labels s bound cursor best) where
+  -- the others before it were so of the best before, and it is covered if it is one
+  on : (r : Candidate) → ((c : ℕ) → Other trip s bound r c → Other trip s bound best c) → (Other trip s bound r cursor → Covered covers labels (resultAt trip s cursor))
+      → (c : ℕ) → Before (cursor + 1) c → Other trip s bound r c → Covered covers labels (resultAt trip s c)
+  on r others own c before other =
+      ⊎-elim
+      (λ (is : c ≡ cursor). subst (λ (c : ℕ). Other trip s bound r c → Covered covers labels (resultAt trip s c)) (sym is) own other)
+      (λ (less : c < cursor). tried .passed c (λ some. less) (others c other))
+      (eq-or-lt-of-le {n = c} {m = cursor} (omega (arith, before (omega arith))))
+
+  -- the best stays
+  kept : (Other trip s bound best cursor → Covered covers labels (resultAt trip s cursor)) → BestBelow trip labels s bound (cursor + 1) best
+  kept own = record { found = tried .found; passed = on best (λ c other. other) own }
+
+  -- it names no legal move
+  pub kept-unnamed : (Names trip s cursor → ⊥) → BestBelow trip labels s bound (cursor + 1) best
+  kept-unnamed none = kept (λ other. absurd (none (other .named)))
+
+  -- what it leads to is not above the bound
+  pub kept-low : ranksNoHigher (resultAt trip s cursor) bound ≡ true → BestBelow trip labels s bound (cursor + 1) best
+  kept-low low = kept (λ other. absurd (T-not (ranksNoHigher (resultAt trip s cursor) bound) (other .higher) (true-T low)))
+
+  -- or does not rank below the best, where there may be more in any case
+  pub kept-high : best .more ≡ true → 1 ≤ best .cursor → T (ranksNoHigher (resultAt trip s (best .cursor)) (resultAt trip s cursor)) → BestBelow trip labels s bound (cursor + 1) best
+  kept-high more some ranks =
+      kept
+      (λ other.
+      absurd
+      (T-not (ranksNoHigher (resultAt trip s (best .cursor)) (resultAt trip s cursor))
+      (subst (λ (m : Bool). Apart m (resultAt trip s (best .cursor)) (resultAt trip s cursor)) more (other .apart some)) ranks))
+
+  -- or is covered
+  pub kept-covered : Covered covers labels (resultAt trip s cursor) → BestBelow trip labels s bound (cursor + 1) best
+  kept-covered covered = kept (λ other. covered)
+
+  -- it is one more candidate
+  pub tried-joined : {r : Candidate} → Names trip s cursor → T (above bound (resultAt trip s cursor)) → (Covered covers labels (resultAt trip s cursor) → ⊥) → Joined trip s best cursor r
+      → BestBelow trip labels s bound (cursor + 1) r
+  tried-joined named over free (same some is) = kept (λ other. absurd (self-apart (best .more) _ _ is (other .apart some)))
+  tried-joined named over free (higher some ranks) =
+      let old = tried .found in
       record {
-        names = λ some. absurd (omega arith);
-        is = λ some. absurd (omega arith);
-        above = λ some. absurd (omega arith);
-        passed = λ c low named above below. absurd (omega (arith, named .low));
+        found = record {
+          held = record { named = old .held .named; clock = old .held .clock; junction = old .held .junction };
+          higher = old .higher;
+          uncovered = old .uncovered;
+        };
+        passed = on _
+            (λ c other. record { named = other .named; higher = other .higher; apart = λ one. below-apart (best .more) _ _ (other .apart one) })
+            (λ other. absurd (T-not (ranksNoHigher (resultAt trip s (best .cursor)) (resultAt trip s cursor)) (other .apart some) ranks));
+      }
+  tried-joined named over free (lower more junction clock there is under) =
+      record {
+        found = record {
+          held = record { named = λ some. named; clock = is ∙ sym (clock-some trip s cursor (named .low)); junction = there ∙ sym (junction-some trip s cursor (named .low)) };
+          higher = λ some. over;
+          uncovered = λ some. free;
+        };
+        passed = on _
+            (λ c other.
+            record {
+              named = other .named;
+              higher = other .higher;
+              apart = λ one.
+                  let lowest = under one in
+                  below-apart (best .more) _ _
+                  (below-below (resultAt trip s (best .cursor)) (resultAt trip s cursor) (resultAt trip s c) (le-of-not rank-order (resultAt trip s cursor) (resultAt trip s (best .cursor)) (lowest .0))
+                  (subst (λ (m : Bool). Apart m (resultAt trip s cursor) (resultAt trip s c)) (lowest .1) (other .apart (named .low))));
+            })
+            (λ other. absurd (self-apart more (resultAt trip s cursor) _ refl (other .apart (named .low))));
       }
 
-  -- cursors that name no legal move need no trial
-  pub tried-over : (a b : ℕ) (best : Best) → ((c : ℕ) → a ≤ c → c < b → Names trip s c → ⊥) → BestBelow trip labels s bound a best → BestBelow trip labels s bound b best
-  tried-over a b best none tried =
-      record {
-        names = tried .names;
-        is = tried .is;
-        above = tried .above;
-        passed = λ c low named above below.
-            ⊎-elim
-            (λ (before : ltb c a ≡ true). tried .passed c (ltb-true _ _ before) named above below)
-            (λ (after : ltb c a ≡ false). absurd (none c (ltb-false _ _ after) low named))
-            (cases (ltb c a));
-      }
-
-  -- one more trial, of a cursor that names an offered move
-  pub tried-next : (best next r : Best) → BestBelow trip labels s bound (next .cursor) best → 1 ≤ next .cursor → next .cursor < roadsIn trip + lastPause
-      → offers trip s (moveAt trip s (next .cursor)) ≡ true → next .state ≡ resultAt trip s (next .cursor)
-      → Weighed (trip .order) labels bound best next r → BestBelow trip labels s bound (next .cursor + 1) r
-  tried-next best next r tried low high offered is (taken better) =
-      record {
-        names = λ some. record { low = low; high = high; offered = offered; lawful = rw (← is) (better .lawful) };
-        is = λ some. is;
-        above = λ some. better .above;
-        passed = λ c end named above below.
-            ⊎-elim
-            (λ (same : c ≡ next .cursor).
-            absurd (never-self rank-order (next .state) (resultAt trip s c) (is ∙ ap (resultAt trip s) (sym same)) (below low)))
-            (λ (before : c < next .cursor).
-            tried .passed c before named above
-            (λ some. below-below (best .state) (next .state) (resultAt trip s c) (better .below some) (below low)))
-            (eq-or-lt-of-le {n = c} {m = next .cursor} (omega arith));
-      }
-  tried-next best next r tried low high offered is (kept covered) =
-      record {
-        names = tried .names;
-        is = tried .is;
-        above = tried .above;
-        passed = λ c end named above below.
-            ⊎-elim
-            (λ (same : c ≡ next .cursor).
-            let this : next .state ≡ resultAt trip s c = is ∙ ap (resultAt trip s) (sym same) in
-            rw (← this) (covered (record { lawful = rw this (named .lawful); above = rw this above; below = rw this below })))
-            (λ (before : c < next .cursor). tried .passed c before named above below)
-            (eq-or-lt-of-le {n = c} {m = next .cursor} (omega arith));
-      }
+-- no label covers anything where there is none
+pub none-covers : (ws : List ℕ) (t : State) → Covered covers (settled ws 0) t → ⊥
+unfolding settled
+none-covers ws t C = List·Memᴰ·not-nil (C .1)

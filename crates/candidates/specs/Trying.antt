@@ -1,39 +1,69 @@
 -- The cursors of a label tried one after the other, lowest first, and the best of them. Assumes nothing.
 use mathlib.Core.Path.{_≡_}
-use mathlib.Core.Bool.{true, not}
+use mathlib.Core.Bool.{Bool, true, false, not, _||_}
 use mathlib.Core.List.{List}
-use Prim.Native.Nat.{ℕ, _≤_, _<_}
-use lib.Dec.{T}
-use Rattle.driving.specs.declared.Order.{Order}
+use Prim.Native.Nat.{ℕ, _+_, _-_, _≤_, _<_}
+use lib.Dec.{T, leb}
+use Rattle.driving.specs.Hours.{lastPause, allowsPause}
 use Rattle.states.specs.declared.State.{State}
-use Rattle.states.specs.States.{legal, covers, ranksNoHigher}
-use Rattle.moves.specs.Trip.{Trip}
+use Rattle.states.specs.States.{covers, ranksNoHigher}
+use Rattle.moves.specs.declared.Run.{Run}
+use Rattle.moves.specs.Trip.{Trip, roadsIn, parkIn}
+use Rattle.moves.specs.Moves.{leaves}
 use Rattle.theory.specs.States.{Covered}
-use Rattle.candidates.specs.declared.Bound.{Bound}
-use Rattle.candidates.specs.declared.Best.{Best}
-use Rattle.candidates.specs.Candidates.{Names, resultAt}
-use Rattle.candidates.specs.Next.{aboveBound}
+use Rattle.labels.specs.declared.Candidate.{Candidate}
+use Rattle.candidates.specs.Candidates.{Names, resultAt, Fitting}
+use Rattle.candidates.specs.Next.{above}
 
--- t ranks strictly below the best so far; each does where there is none
-abbrev pub BelowBest : Best → State → Type 0
-BelowBest best t = 1 ≤ best .cursor → T (not (ranksNoHigher (best .state) t))
+-- a cursor worth trying: of a road of the junction, or of a kind of pause at a car park
+pub record Worth (trip : Trip) (s : State) (cursor : ℕ) : Type 0 where
+  pub low : 1 ≤ cursor
+  pub high : cursor < roadsIn trip + lastPause
+  pub road : cursor ≤ roadsIn trip → leaves trip (s .junction) cursor ≡ true
+  pub pause : roadsIn trip < cursor → parkIn trip (s .junction) ≡ true
 
--- t would be a better candidate: legal, above the bound and below the best so far
-pub record Beats (order : Order) (bound : Bound) (best : Best) (t : State) : Type 0 where
-  pub lawful : legal order t ≡ true
-  pub above : T (aboveBound bound t)
-  pub below : BelowBest best t
+-- of a pause the driver's figures decide besides
+abbrev pub allowed : Run → State → ℕ → Bool
+allowed run s cursor =
+    leb cursor (run .sizes .roads) || allowsPause (run .order .rules) (s .figures) (cursor - run .sizes .roads + 1)
 
--- the better of two: the next if it beats the best so far; else, or where a label covers it, what was
-pub data Weighed (order : Order) (labels : List State) (bound : Bound) (best next : Best) : Best → Type 0 where
-  taken : Beats order bound best (next .state) → Weighed order labels bound best next next
-  kept : (Beats order bound best (next .state) → Covered covers labels (next .state)) → Weighed order labels bound best next best
+-- c stands before the next cursor; each does where that is 0, the end
+abbrev pub Before : ℕ → ℕ → Type 0
+Before next c = 1 ≤ next → c < next
 
--- of the cursors below the given one this is the best
-pub record BestBelow (trip : Trip) (labels : List State) (s : State) (bound : Bound) (end : ℕ) (best : Best) : Type 0 where
-  pub names : 1 ≤ best .cursor → Names trip s (best .cursor)
-  pub is : 1 ≤ best .cursor → best .state ≡ resultAt trip s (best .cursor)
-  pub above : 1 ≤ best .cursor → T (aboveBound bound (best .state))
-  -- what ranks below it is covered
-  pub passed : (c : ℕ) → c < end → Names trip s c → T (aboveBound bound (resultAt trip s c)) → BelowBest best (resultAt trip s c)
-      → Covered covers labels (resultAt trip s c)
+-- the next cursor worth trying after this one; none that it passes over names a legal move
+pub record Follows (trip : Trip) (s : State) (cursor next : ℕ) : Type 0 where
+  pub rises : Before next cursor
+  pub worth : 1 ≤ next → Worth trip s next
+  pub over : (c : ℕ) → cursor < c → Before next c → Names trip s c → ⊥
+
+-- t ranks below the best so far or, where none above it may be left, is any other state
+abbrev pub Apart : Bool → State → State → Type 0
+Apart true best t = T (not (ranksNoHigher best t))
+Apart false best t = best ≡ t → ⊥
+
+-- the best so far is a successor above the bound that no label covers
+pub record Found (trip : Trip) (labels : List State) (s bound : State) (best : Candidate) : Type 0 where
+  pub held : Fitting trip s best
+  pub higher : 1 ≤ best .cursor → T (above bound (resultAt trip s (best .cursor)))
+  pub uncovered : 1 ≤ best .cursor → Covered covers labels (resultAt trip s (best .cursor)) → ⊥
+
+-- the cursor of a successor above the bound that is apart from the best so far
+pub record Other (trip : Trip) (s bound : State) (best : Candidate) (c : ℕ) : Type 0 where
+  pub named : Names trip s c
+  pub higher : T (above bound (resultAt trip s c))
+  pub apart : 1 ≤ best .cursor → Apart (best .more) (resultAt trip s (best .cursor)) (resultAt trip s c)
+
+-- of the cursors before the next this is the best: a label covers what the others lead to
+pub record BestBelow (trip : Trip) (labels : List State) (s bound : State) (next : ℕ) (best : Candidate) : Type 0 where
+  pub found : Found trip labels s bound best
+  pub passed : (c : ℕ) → Before next c → Other trip s bound best c → Covered covers labels (resultAt trip s c)
+
+-- the best so far with one more: one to the same state, one that ranks no lower, or one below it, which takes its place
+pub data Joined (trip : Trip) (s : State) (best : Candidate) (cursor : ℕ) : Candidate → Type 0 where
+  same : 1 ≤ best .cursor → resultAt trip s (best .cursor) ≡ resultAt trip s cursor → Joined trip s best cursor best
+  higher : 1 ≤ best .cursor → T (ranksNoHigher (resultAt trip s (best .cursor)) (resultAt trip s cursor))
+      → Joined trip s best cursor (record { cursor = best .cursor; junction = best .junction; clock = best .clock; more = true })
+  lower : (more : Bool) (junction clock : ℕ) → junction ≡ resultAt trip s cursor .junction → clock ≡ resultAt trip s cursor .clock .0
+      → (1 ≤ best .cursor → T (not (ranksNoHigher (resultAt trip s (best .cursor)) (resultAt trip s cursor))) × (more ≡ true))
+      → Joined trip s best cursor (record { cursor = cursor; junction = junction; clock = clock; more = more })

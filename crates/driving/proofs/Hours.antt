@@ -95,7 +95,7 @@ pub mark-told : (m : Bool) → eqb (markFigure m) 0 ≡ m
 mark-told true = refl
 mark-told false = refl
 
-mark-high : (m : Bool) → markFigure m ≤ 1
+pub mark-high : (m : Bool) → markFigure m ≤ 1
 mark-high true = omega arith
 mark-high false = omega arith
 

@@ -1,18 +1,22 @@
 -- Words of the label run after a store, and the labels as a list. Assumes nothing.
 use mathlib.Core.Path.{_≡_, _∙_, refl, ap, ap₂}
+use mathlib.Core.Bool.{Bool, true, false}
 use mathlib.Core.List.{List, [], _∷_, _++_, List·Memᴰ, List·Memᴰ·head, List·Memᴰ·append-cases, List·Memᴰ·eq-of-singleton, List·Memᴰ·not-nil, Memᴰ·append-left, Memᴰ·append-right}
 use mathlib.Core.Logic.{_⊎_, ⊎-elim}
-use Prim.Native.Nat.{ℕ, zero, suc, _+_, _-_, _*_, _≤_, _<_}
+use Prim.Native.Nat.{ℕ, zero, suc, _+_, _-_, _*_, _/_, _%_, _≤_, _<_}
 use native.Mathlib.Omega.{arith}
 use native.Mathlib.Nat.{add-zero}
 use native.Mathlib.Numerals.{add-one}
 use native.Mathlib.Decide.{decLe}
+use lib.Dec.{eqb}
 use lib.ListN.{length, getD, set, length-set, length-append, List·getD-append}
 use lib.Seq.{getD-set-same, getD-set-other, getD-at}
 use Rattle.states.specs.declared.State.{State}
 use Rattle.states.specs.LabelSpace.{labelWords}
-use Rattle.driving.proofs.Hours.{mark-told}
-use Rattle.labels.specs.LabelWords.{stateWords, junctionField, clockField, spellField, shiftField, unmarkedField, parentField, cursorField, winnerField, previousField, at, field, previousOf, labelAt, wordsOf, settled, column, Same, SameLabels, Added, puts}
+use Rattle.driving.specs.Hours.{unmarked}
+use Rattle.driving.proofs.Hours.{mark-told, mark-high}
+use Rattle.labels.specs.declared.Candidate.{Candidate}
+use Rattle.labels.specs.LabelWords.{stateWords, placeField, clockField, spellField, shiftField, parentField, cursorField, winnerField, previousField, ownField, at, field, previousOf, labelAt, candidateOf, cursorWord, Packs, junctionBase, wordsOf, settled, column, Same, SameLabels, Added, puts}
 
 -- A word that is stored is read, and no other word of the labels changes.
 module _ (ws : List ℕ) (k f v : ℕ) (small : f < labelWords) where
@@ -25,12 +29,42 @@ module _ (ws : List ℕ) (k f v : ℕ) (small : f < labelWords) where
   pub set-label : (m g : ℕ) → 1 ≤ k → 1 ≤ m → (m ≡ k → ⊥) → g < labelWords → field (set ws (at k f) v) m g ≡ field ws m g
   set-label m g low low′ differs b = getD-set-other ws (at k f) (at m g) v 0 (λ e. differs (omega arith))
 
--- a store into a label's parent, cursor or winner leaves the labels
-pub set-labels : (ws : List ℕ) (k f v n : ℕ) → parentField ≤ f → f ≤ winnerField → SameLabels ws (set ws (at k f) v) n
-set-labels ws k f v n a b = record {
+-- a store into a label's parent, candidate or winner leaves the labels
+pub set-labels : (ws : List ℕ) (k f v n : ℕ) → parentField ≤ f → f < labelWords → (f ≡ previousField → ⊥) → SameLabels ws (set ws (at k f) v) n
+set-labels ws k f v n a b other = record {
   states = λ g small. set-field ws k f v (omega arith) g n (omega arith) (λ e. omega arith);
-  previous = set-field ws k f v (omega arith) previousField n (omega arith) (λ e. omega arith);
+  previous = set-field ws k f v (omega arith) previousField n (omega arith) (λ e. other (omega arith));
 }
+
+-- Two numbers in one word.
+half : (a b : ℕ) → b ≤ 1 → (2 * a + b) / 2 ≡ a
+half a b small = omega arith
+
+rest : (a b : ℕ) → b ≤ 1 → (2 * a + b) % 2 ≡ b
+rest a b small = omega arith
+
+over : (a b : ℕ) → b < junctionBase → (junctionBase * a + b) / junctionBase ≡ a
+over a b small = omega arith
+
+under : (a b : ℕ) → b < junctionBase → (junctionBase * a + b) % junctionBase ≡ b
+under a b small = omega arith
+
+abbrev flag : Bool → ℕ
+flag more = elim more [ true ↦ 1 | false ↦ 0 ]
+
+flag-small : (more : Bool) → flag more ≤ 1
+flag-small true = omega arith
+flag-small false = omega arith
+
+flag-told : (more : Bool) → eqb (flag more) 1 ≡ more
+flag-told true = refl
+flag-told false = refl
+
+-- two words tell the candidate
+pub word-candidate : (ws : List ℕ) (k : ℕ) (c : Candidate) → Packs c → field ws k cursorField ≡ cursorWord c → field ws k ownField ≡ c .clock → candidateOf ws k ≡ c
+word-candidate ws k c packs word own =
+    let m = flag-small (c .more) in
+    rw (word, own, half (junctionBase * c .cursor + c .junction) (flag (c .more)) m, rest (junctionBase * c .cursor + c .junction) (flag (c .more)) m, over (c .cursor) (c .junction) (packs .junction), under (c .cursor) (c .junction) (packs .junction), flag-told (c .more))
 
 module _ (ws ws′ : List ℕ) (n : ℕ) (kept : (p : ℕ) → p < labelWords * n → getD ws′ p 0 ≡ getD ws p 0) where
   -- where all words of labels 1 .. n are as they were, each word of theirs is
@@ -45,7 +79,7 @@ module _ (ws ws′ : List ℕ) (n : ℕ) (kept : (p : ℕ) → p < labelWords * 
 
 pub same-label : (ws ws′ : List ℕ) (n : ℕ) → SameLabels ws ws′ n → (k : ℕ) → 1 ≤ k → k ≤ n → labelAt ws′ k ≡ labelAt ws k
 same-label ws ws′ n same k low high =
-    rw (word junctionField (omega arith), word clockField (omega arith), word spellField (omega arith), word shiftField (omega arith), word unmarkedField (omega arith))
+    rw (word placeField (omega arith), word clockField (omega arith), word spellField (omega arith), word shiftField (omega arith))
   where
     word : (f : ℕ) → f < stateWords → field ws′ k f ≡ field ws k f
     word f small = same .states f small k low high
@@ -85,8 +119,8 @@ settled-by-label ws ws′ (suc n) same =
 pub settled-same : (ws ws′ : List ℕ) (n : ℕ) → SameLabels ws ws′ n → settled ws′ n ≡ settled ws n
 settled-same ws ws′ n same = settled-by-label ws ws′ n (same-label ws ws′ n same)
 
-pub settled-set : (ws : List ℕ) (k f v n : ℕ) → parentField ≤ f → f ≤ winnerField → settled (set ws (at k f) v) n ≡ settled ws n
-settled-set ws k f v n a b = settled-same ws _ n (set-labels ws k f v n a b)
+pub settled-set : (ws : List ℕ) (k f v n : ℕ) → parentField ≤ f → f < labelWords → (f ≡ previousField → ⊥) → settled (set ws (at k f) v) n ≡ settled ws n
+settled-set ws k f v n a b other = settled-same ws _ n (set-labels ws k f v n a b other)
 
 pub settled-mem : (ws : List ℕ) (n k : ℕ) → 1 ≤ k → k ≤ n → List·Memᴰ (labelAt ws k) (settled ws n)
 unfolding settled
@@ -112,27 +146,27 @@ mem-settled ws (suc n) a m =
     (λ h. record { k = suc n; low = omega arith; high = omega arith; is = List·Memᴰ·eq-of-singleton h })
     (List·Memᴰ·append-cases (settled ws n) m)
 
--- One word of each label as a list.
-pub column-more : (f : ℕ) (ws : List ℕ) (n : ℕ) → column f ws (n + 1) ≡ column f ws n ++ (field ws (n + 1) f ∷ [])
+-- What is read of each label as a list.
+pub column-more : (read : List ℕ → ℕ → ℕ) (ws : List ℕ) (n : ℕ) → column read ws (n + 1) ≡ column read ws n ++ (read ws (n + 1) ∷ [])
 unfolding column
-column-more f ws n = rw (add-one n)
+column-more read ws n = rw (add-one n)
 
-pub column-length : (f : ℕ) (ws : List ℕ) (n : ℕ) → length (column f ws n) ≡ n
+pub column-length : (read : List ℕ → ℕ → ℕ) (ws : List ℕ) (n : ℕ) → length (column read ws n) ≡ n
 unfolding column
-column-length f ws zero = refl
-column-length f ws (suc n) = length-append (column f ws n) _ ∙ rw (column-length f ws n) (omega arith)
+column-length read ws zero = refl
+column-length read ws (suc n) = length-append (column read ws n) _ ∙ rw (column-length read ws n) (omega arith)
 
-pub column-at : (f : ℕ) (ws : List ℕ) (n k d : ℕ) → 1 ≤ k → k ≤ n → getD (column f ws n) (k - 1) d ≡ field ws k f
+pub column-at : (read : List ℕ → ℕ → ℕ) (ws : List ℕ) (n k d : ℕ) → 1 ≤ k → k ≤ n → getD (column read ws n) (k - 1) d ≡ read ws k
 unfolding column
-column-at f ws zero k d low high = absurd (omega arith)
-column-at f ws (suc n) k d low high =
-    grown (column f ws n) (field ws (suc n) f) d k n (column-length f ws n) low high (λ h. column-at f ws n k d low h) (λ e. rw e)
+column-at read ws zero k d low high = absurd (omega arith)
+column-at read ws (suc n) k d low high =
+    grown (column read ws n) (read ws (suc n)) d k n (column-length read ws n) low high (λ h. column-at read ws n k d low h) (λ e. rw e)
 
-pub column-same : (f : ℕ) (ws ws′ : List ℕ) (n : ℕ) → Same f ws ws′ n → column f ws′ n ≡ column f ws n
+pub column-same : (read : List ℕ → ℕ → ℕ) (ws ws′ : List ℕ) (n : ℕ) → ((k : ℕ) → 1 ≤ k → k ≤ n → read ws′ k ≡ read ws k) → column read ws′ n ≡ column read ws n
 unfolding column
-column-same f ws ws′ zero same = refl
-column-same f ws ws′ (suc n) same =
-    ap₂ (λ (l : List ℕ) (a : ℕ). l ++ (a ∷ [])) (column-same f ws ws′ n (λ k low high. same k low (omega arith))) (same (suc n) (omega arith) (omega arith))
+column-same read ws ws′ zero same = refl
+column-same read ws ws′ (suc n) same =
+    ap₂ (λ (l : List ℕ) (a : ℕ). l ++ (a ∷ [])) (column-same read ws ws′ n (λ k low high. same k low (omega arith))) (same (suc n) (omega arith) (omega arith))
 
 -- The store of a new label.
 puts-below : (ws : List ℕ) (i f : ℕ) (vs : List ℕ) (p : ℕ) → p < i + f → getD (puts ws i f vs) p 0 ≡ getD ws p 0
@@ -151,9 +185,9 @@ put-word : (ws : List ℕ) (n : ℕ) (vs : List ℕ) (f : ℕ) → labelWords * 
 put-word ws n vs f b h = let e : at (n + 1) f ≡ labelWords * n + 0 + f = omega arith in rw e (puts-at ws (labelWords * n) 0 vs f (omega arith) h)
 
 -- all words of a new label
-module _ (ws : List ℕ) (n : ℕ) (label : State) (parent cursor previous : ℕ) (room : labelWords * (n + 1) ≤ length ws) where
+module _ (ws : List ℕ) (n : ℕ) (label : State) (parent : ℕ) (c : Candidate) (previous : ℕ) (packs : Packs c) (room : labelWords * (n + 1) ≤ length ws) where
   abbrev words : List ℕ
-  words = wordsOf label parent cursor (n + 1) previous
+  words = wordsOf label parent c (n + 1) previous
 
   abbrev ws′ : List ℕ
   ws′ = puts ws (labelWords * n) 0 words
@@ -162,7 +196,12 @@ module _ (ws : List ℕ) (n : ℕ) (label : State) (parent cursor previous : ℕ
   word f small = put-word ws n words f (omega arith) (omega arith)
 
   is-label : labelAt ws′ (n + 1) ≡ label
-  is-label = rw (word junctionField (omega arith), word clockField (omega arith), word spellField (omega arith), word shiftField (omega arith), word unmarkedField (omega arith), mark-told (label .figures .marked))
+  is-label =
+      let m = mark-high (label .figures .marked) in
+      rw (word placeField (omega arith), word clockField (omega arith), word spellField (omega arith), word shiftField (omega arith), half (label .junction) (unmarked (label .figures)) m, rest (label .junction) (unmarked (label .figures)) m, mark-told (label .figures .marked))
+
+  is-candidate : candidateOf ws′ (n + 1) ≡ c
+  is-candidate = word-candidate ws′ (n + 1) c packs (word cursorField (omega arith)) (word ownField (omega arith))
 
   kept : (p : ℕ) → p < labelWords * n → getD ws′ p 0 ≡ getD ws p 0
   kept p h = puts-below ws (labelWords * n) 0 words p (omega arith)
@@ -170,11 +209,11 @@ module _ (ws : List ℕ) (n : ℕ) (label : State) (parent cursor previous : ℕ
   link : field ws′ (n + 1) previousField ≡ previous
   link = word previousField (omega arith)
 
-  added : Added ws ws′ n label parent cursor
+  added : Added ws ws′ n label parent c
   added = record {
     is-label = is-label;
     is-parent = word parentField (omega arith);
-    is-cursor = word cursorField (omega arith);
+    is-candidate = is-candidate;
     wins = word winnerField (omega arith);
     kept = kept;
     settled = settled-more ws′ n ∙ ap₂ (λ (l : List State) (a : State). l ++ (a ∷ [])) (settled-same ws ws′ n (kept-labels ws ws′ n kept)) is-label;
@@ -182,15 +221,15 @@ module _ (ws : List ℕ) (n : ℕ) (label : State) (parent cursor previous : ℕ
 
 -- what the store of all its words says of a new label
 pub label-stored :
-    (ws ws′ : List ℕ) (n : ℕ) (label : State) (parent cursor previous : ℕ) → labelWords * (n + 1) ≤ length ws
-    → ws′ ≡ puts ws (labelWords * n) 0 (wordsOf label parent cursor (n + 1) previous)
-    → Added ws ws′ n label parent cursor × (previousOf ws′ (n + 1) ≡ previous)
-label-stored ws ws′ n label parent cursor previous room e =
-    rw e (added ws n label parent cursor previous room, link ws n label parent cursor previous room)
+    (ws ws′ : List ℕ) (n : ℕ) (label : State) (parent : ℕ) (c : Candidate) (previous : ℕ) → Packs c → labelWords * (n + 1) ≤ length ws
+    → ws′ ≡ puts ws (labelWords * n) 0 (wordsOf label parent c (n + 1) previous)
+    → Added ws ws′ n label parent c × (previousOf ws′ (n + 1) ≡ previous)
+label-stored ws ws′ n label parent c previous packs room e =
+    rw e (added ws n label parent c previous packs room, link ws n label parent c previous packs room)
 
--- each column is longer by the new label's word
+-- a column is longer by what is read of the new label, where what it reads of the others has stayed
 pub column-added :
-    (f : ℕ) (ws ws′ : List ℕ) (n : ℕ) (label : State) (parent cursor : ℕ) → f < labelWords → Added ws ws′ n label parent cursor
-    → column f ws′ (n + 1) ≡ column f ws n ++ (field ws′ (n + 1) f ∷ [])
-column-added f ws ws′ n label parent cursor small A =
-    column-more f ws′ n ∙ ap (λ (l : List ℕ). l ++ (field ws′ (n + 1) f ∷ [])) (column-same f ws ws′ n (kept-field ws ws′ n (A .kept) f small))
+    (read : List ℕ → ℕ → ℕ) (ws ws′ : List ℕ) (n : ℕ) → ((k : ℕ) → 1 ≤ k → k ≤ n → read ws′ k ≡ read ws k)
+    → column read ws′ (n + 1) ≡ column read ws n ++ (read ws′ (n + 1) ∷ [])
+column-added read ws ws′ n same =
+    column-more read ws′ n ∙ ap (λ (l : List ℕ). l ++ (read ws′ (n + 1) ∷ [])) (column-same read ws ws′ n same)

@@ -9,6 +9,7 @@ use native.Mathlib.Decide.{decLe, ℕ-discrete, map-dec}
 use lib.ListN.{length, set}
 use Rattle.states.specs.declared.State.{State}
 use Rattle.states.specs.LabelSpace.{labelWords}
+use Rattle.labels.specs.declared.Candidate.{Candidate}
 use Rattle.labels.specs.LabelWords.{winnerField, at, winnerOf, Same, Added, WinnerWithin}
 use Rattle.labels.specs.Tree.{ancestor, Under, Least, Right, Tree, TreeBut, Better, Stored, Mending, Entering}
 use Rattle.labels.proofs.LabelWords.{set-same, set-label, kept-field}
@@ -197,14 +198,10 @@ node-mended key ws ws′ n i v T L S k a b off = go (ℕ-discrete k i)
     go (no e) = rw (S .others k a b e) (T k a b (λ u. ⊎-elim e off (path k i u)))
 
 -- the label's own node, from the winners l and r of its children
-pub mend-first :
-    {key : ℕ → ℕ} {ws ws′ : List ℕ} {n i l r u v : ℕ} → 1 ≤ i → i ≤ n → TreeBut key ws n i → WinnerWithin ws n (2 * i) l → WinnerWithin ws n (2 * i + 1) r
-    → Better key l i u → Better key u r v → Stored ws ws′ n i v → Mending key ws′ n i v
-mend-first {key} {ws} {ws′} {n} {i} {l} {r} {v} low high T L R B C S =
-    let won =
-    join (omega arith) (omega arith) (λ e. omega arith) high (beyond key ws n i (2 * i) l T (omega arith) L)
-    (beyond key ws n i (2 * i + 1) r T (omega arith) R) B C in
-    record { low = low; high = high; won = won; rest = node-mended key ws ws′ n i v T won S }
+pub mend-first : {key : ℕ → ℕ} {ws : List ℕ} {n i l : ℕ} → 1 ≤ i → i ≤ n → TreeBut key ws n i → WinnerWithin ws n (2 * i) l → Mending key ws n (2 * i) l
+mend-first {key} {ws} {n} {i} {l} low high T L =
+    let e : 2 * i / 2 ≡ i = omega arith in
+    record { low = omega arith; high = omega arith; won = beyond key ws n i (2 * i) l T (omega arith) L; rest = rw e T }
 
 -- the winner r of j's sibling s
 pub beside : {key : ℕ → ℕ} {ws : List ℕ} {n j s v r : ℕ} → Mending key ws n j v → 1 < j → s / 2 ≡ j / 2 → WinnerWithin ws n s r → Least key n s r
@@ -216,7 +213,7 @@ pub mend-step :
     → Better key v (j / 2) u → Better key u r v′ → Stored ws ws′ n (j / 2) v′ → Mending key ws′ n (j / 2) v′
 mend-step {key} {ws} {ws′} {n} {j} {v′} M two by differs R B C S =
     let won =
-    join refl by differs (omega (arith, M .high)) (M .won) (beside M two by R) B C in
+    join refl by differs (M .high) (M .won) (beside M two by R) B C in
     record { low = omega arith; high = omega (arith, M .high); won = won; rest = node-mended key ws ws′ n (j / 2) v′ (M .rest) won S }
 
 -- at the root the tree is right again
@@ -253,7 +250,7 @@ enter-first key ws ws′ n T now same = record {
         })
 
 pub enter-added :
-    {key : ℕ → ℕ} {ws ws′ : List ℕ} {n : ℕ} {label : State} {parent cursor : ℕ} → Added ws ws′ n label parent cursor → Tree key ws n
+    {key : ℕ → ℕ} {ws ws′ : List ℕ} {n : ℕ} {label : State} {parent : ℕ} {c : Candidate} → Added ws ws′ n label parent c → Tree key ws n
     → Entering key ws′ n ((n + 1) / 2)
 enter-added {key} {ws} {ws′} {n} A T = enter-first key ws ws′ n T (A .wins) (kept-field ws ws′ n (A .kept) winnerField (omega arith))
 

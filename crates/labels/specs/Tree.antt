@@ -44,10 +44,11 @@ pub record Stored (ws ws′ : List ℕ) (n i v : ℕ) : Type 0 where
   pub now : winnerOf ws′ i ≡ v
   pub others : (k : ℕ) → 1 ≤ k → k ≤ n → (k ≡ i → ⊥) → winnerOf ws′ k ≡ winnerOf ws k
 
--- Mending a path after a label's key has changed: v is the winner below node j, and only the nodes above j are left.
+-- Mending a path after a label's key has changed: v is the winner below node j, which may be past the labels, and only the nodes above j are
+-- left.
 pub record Mending (key : ℕ → ℕ) (ws : List ℕ) (n j v : ℕ) : Type 0 where
   pub low : 1 ≤ j
-  pub high : j ≤ n
+  pub high : j / 2 ≤ n
   pub won : Least key n j v
   pub rest : TreeBut key ws n (j / 2)
 

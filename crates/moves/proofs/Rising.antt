@@ -35,6 +35,7 @@ sound-trip map o accepted ordered =
     let sound = sound-map map accepted in
     record {
       few = rw (junctions-in map o) (sound .counts .few-junctions);
+      few-roads = rw (roads-in map o) (sound .counts .few-roads);
       to-low = λ r low high. let top = within r high in rw (road-in map o r low top) (sound .roads r low top .to .above);
       to-high = λ r low high.
           let top = within r high in rw (road-in map o r low top, junctions-in map o) (sound .roads r low top .to .below);

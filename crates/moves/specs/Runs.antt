@@ -5,7 +5,7 @@ use mathlib.Core.Bool.{true}
 use mathlib.Core.List.{List}
 use Prim.Native.Nat.{ℕ, _≤_}
 use lib.Dec.{eqb}
-use Rattle.roadmap.specs.Format.{HasSizes, mostJunctions, junctionCount, roadCount, carPark}
+use Rattle.roadmap.specs.Format.{HasSizes, mostJunctions, mostRoads, junctionCount, roadCount, carPark}
 use Rattle.mapcheck.specs.MapCheck.{AcceptedMap}
 use Rattle.driving.specs.declared.Order.{Order}
 use Rattle.driving.specs.Accepted.{AcceptedOrder}
@@ -30,9 +30,10 @@ pub record Tied (map : List ℕ) (run : Run) (trip : Trip) : Type 0 where
   pub park : (j : ℕ) → 1 ≤ j → j ≤ junctionCount map → parkIn trip j ≡ eqb (carPark map j) 1
   pub order : trip .order ≡ run .order
 
--- what is sound of a trip: its junctions are few enough, its roads lead to them and take time, and so do its pauses
+-- what is sound of a trip: its junctions and roads are few enough, its roads lead to junctions and take time, and so do its pauses
 pub record SoundTrip (trip : Trip) : Type 0 where
   pub few : junctionsIn trip ≤ mostJunctions
+  pub few-roads : roadsIn trip ≤ mostRoads
   pub to-low : (r : ℕ) → 1 ≤ r → r ≤ roadsIn trip → 1 ≤ roadIn trip r .to
   pub to-high : (r : ℕ) → 1 ≤ r → r ≤ roadsIn trip → roadIn trip r .to ≤ junctionsIn trip
   pub seconds : (r : ℕ) → 1 ≤ r → r ≤ roadsIn trip → 1 ≤ roadIn trip r .seconds

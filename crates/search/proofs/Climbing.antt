@@ -10,14 +10,14 @@ use Rattle.states.specs.declared.State.{State}
 use Rattle.moves.specs.Trip.{Trip}
 use Rattle.moves.specs.Runs.{SoundTrip}
 use Rattle.states.proofs.Compared.{rank-order}
+use Rattle.labels.specs.declared.Candidate.{Candidate}
 use Rattle.labels.specs.LabelWords.{labelAt, cursorOf, winnerOf, settled}
-use Rattle.candidates.specs.declared.Bound.{Bound}
 use Rattle.states.specs.RankNumber.{wordBase, Small, rankNumber}
-use Rattle.candidates.specs.Next.{NextIs}
-use Rattle.winners.specs.Keys.{noKey, keyAt}
+use Rattle.candidates.specs.Next.{Passes, NextIs}
+use Rattle.winners.specs.Keys.{noKey, keyAt, candidate}
 use Rattle.winners.specs.Mending.{Advanced, LeastKey}
 use Rattle.states.proofs.Ranks.{rank-low, number-low}
-use Rattle.winners.proofs.Keys.{candidate, key-open, key-below, key-has, result-small}
+use Rattle.winners.proofs.Keys.{key-open, key-below, key-has, result-small}
 use Rattle.winners.proofs.Steps.{leads}
 use Rattle.settling.specs.Settling.{candidateOf, Winner, Later}
 use Rattle.settling.proofs.Rising.{covered-later}
@@ -41,13 +41,13 @@ later-key c c′ r r′ small small′ low low′ few later = go (decLe (rankNum
     go (no h) = omega (arith, under)
 
 module _ (trip : Trip) (sound : SoundTrip trip) {ws hs ss fs : List ℕ} {n : ℕ} (U : Underway trip ws hs ss fs n) (r : ℕ) (c : State) (won : Chosen trip ws n r c)
-    (ws′ : List ℕ) (v : ℕ) (next : NextIs trip (settled ws n) (labelAt ws r) (Bound.Above c) v) (A : Advanced trip ws ws′ n r v) where
+    (ws′ : List ℕ) (v : Candidate) (next : NextIs trip (settled ws n) (labelAt ws r) c v) (A : Advanced trip ws ws′ n r v) where
   leads′ : LeastKey trip ws′ n (winnerOf ws′ 1)
   leads′ = leads trip ws′ n (U .low) (A .tree)
 
   small : Small c
   small =
-      subst Small (sym (won .is)) (result-small trip sound (labelAt ws r) (cursorOf ws r) (U .ready r (won .low) (won .high) .range) (U .ready r (won .low) (won .high) .cursor (won .has)))
+      subst Small (sym (won .is)) (result-small trip sound (labelAt ws r) (cursorOf ws r) (U .ready r (won .low) (won .high) .range) (U .ready r (won .low) (won .high) .fitting .named (won .has)))
 
   key-is : keyAt trip ws r ≡ rankNumber c * wordBase + r
   key-is = key-open trip ws r (won .low) (won .has) ∙ ap (λ (z : State). rankNumber z * wordBase + r) (sym (won .is))
@@ -55,14 +55,14 @@ module _ (trip : Trip) (sound : SoundTrip trip) {ws hs ss fs : List ℕ} {n : �
   module _ (r′ : ℕ) (L′ : LeastKey trip ws′ n r′) (low′ : 1 ≤ r′) (has′ : 1 ≤ cursorOf ws′ r′) where
     small′ : Small (candidate trip ws′ r′)
     small′ =
-        result-small trip sound (labelAt ws′ r′) (cursorOf ws′ r′) (A .ready r′ low′ (L′ .within) .range) (A .ready r′ low′ (L′ .within) .cursor has′)
+        result-small trip sound (labelAt ws′ r′) (cursorOf ws′ r′) (A .ready r′ low′ (L′ .within) .range) (A .ready r′ low′ (L′ .within) .fitting .named has′)
 
-    winner′ : Winner trip (settled ws n) (set (cursorsOf ws n) (r - 1) v) (r′ - 1)
+    winner′ : Winner trip (settled ws n) (set (cursorsOf ws n) (r - 1) (v .cursor)) (r′ - 1)
     winner′ =
         subst₂ (λ (l : List State) (k : List ℕ). Winner trip l k (r′ - 1)) (advanced-states A) (advanced-cursors A (won .low) (won .high))
         (is-winner trip sound ws′ n (A .ready) r′ L′ low′ has′)
 
-    candidate′ : candidateOf trip (settled ws n) (set (cursorsOf ws n) (r - 1) v) (r′ - 1) ≡ candidate trip ws′ r′
+    candidate′ : candidateOf trip (settled ws n) (set (cursorsOf ws n) (r - 1) (v .cursor)) (r′ - 1) ≡ candidate trip ws′ r′
     candidate′ =
         subst₂ (λ (l : List State) (k : List ℕ). candidateOf trip l k (r′ - 1) ≡ candidate trip ws′ r′) (advanced-states A) (advanced-cursors A (won .low) (won .high))
         (candidate-is trip ws′ n r′ low′ (L′ .within))
@@ -70,8 +70,8 @@ module _ (trip : Trip) (sound : SoundTrip trip) {ws hs ss fs : List ℕ} {n : �
     later′ : Later c (r - 1) (candidate trip ws′ r′) (r′ - 1)
     later′ =
         subst₂ (λ (z z′ : State). Later z (r - 1) z′ (r′ - 1)) (loop-candidate trip U r c won) candidate′
-        (covered-later trip (settled ws n) (cursorsOf ws n) (parentsOf ws n) (U .loop) (r - 1) (won .winner) v
-        (subst₂ (λ (s z : State). NextIs trip (settled ws n) s (Bound.Above z) v) (sym (loop-state trip U r c won)) (sym (loop-candidate trip U r c won)) next)
+        (covered-later trip (settled ws n) (cursorsOf ws n) (parentsOf ws n) (U .loop) (r - 1) (won .winner) (v .cursor)
+        (subst₂ (λ (s z : State). Passes trip (settled ws n) s z (v .cursor)) (sym (loop-state trip U r c won)) (sym (loop-candidate trip U r c won)) (next .passes))
         (r′ - 1) winner′)
 
     higher : keyAt trip ws r < keyAt trip ws′ r′

@@ -10,9 +10,9 @@ use Rattle.moves.specs.Trip.{Trip}
 use Rattle.moves.specs.Runs.{SoundTrip}
 use Rattle.states.specs.States.{ranksNoHigher}
 use Rattle.labels.specs.LabelWords.{cursorOf, settled}
-use Rattle.winners.specs.Keys.{noKey, keyAt, Ready}
+use Rattle.winners.specs.Keys.{noKey, keyAt, candidate, Ready}
 use Rattle.winners.specs.Mending.{LeastKey}
-use Rattle.winners.proofs.Keys.{candidate, key-rank, key-tie}
+use Rattle.winners.proofs.Keys.{key-rank, key-tie}
 use Rattle.winners.proofs.Steps.{none-left}
 use Rattle.settling.specs.Settling.{candidateOf, Winner}
 use Rattle.search.specs.Underway.{cursorsOf}

@@ -11,7 +11,7 @@ use Rattle.moves.specs.Trip.{Trip}
 use Rattle.moves.specs.Runs.{SoundTrip}
 use Rattle.states.specs.LabelSpace.{labelsThatFit, labelWords}
 use Rattle.journeys.proofs.Labels.{label-some}
-use Rattle.labels.specs.LabelWords.{parentField, previousField, at, Same, settled}
+use Rattle.labels.specs.LabelWords.{parentField, previousField, at, parentOf, Same, settled}
 use Rattle.labels.proofs.LabelWords.{column-same, settled-same}
 use Rattle.settling.specs.Settling.{Ended}
 use Rattle.search.specs.declared.Outcome.{Outcome}
@@ -38,7 +38,7 @@ module _ (part rest : List ℕ) (n : ℕ) (room : labelWords * n ≤ length part
       (record { states = λ f small. part-column f (omega arith); previous = part-column previousField (omega arith) })
 
   part-parents : parentsOf (part ++ rest) n ≡ parentsOf part n
-  part-parents = column-same parentField part (part ++ rest) n (part-column parentField (omega arith))
+  part-parents = column-same parentOf part (part ++ rest) n (part-column parentField (omega arith))
 
   part-ended : (trip : Trip) (answer : Option State) → Ended trip answer (settled part n) (parentsOf part n) → Ended trip answer (settled (part ++ rest) n) (parentsOf (part ++ rest) n)
   part-ended trip answer ended = subst₂ (λ (L : List State) (P : List ℕ). Ended trip answer L P) (sym part-states) (sym part-parents) ended

@@ -1,4 +1,5 @@
 pub mod Columns
+pub mod Keeping
 pub mod Leading
 pub mod Turning
 pub mod Climbing

@@ -12,11 +12,11 @@ use Rattle.moves.specs.Runs.{SoundTrip}
 use Rattle.theory.specs.States.{Covered}
 use Rattle.journeys.specs.Journeys.{atTarget}
 use Rattle.states.specs.States.{covers}
-use Rattle.labels.specs.LabelWords.{labelAt, cursorOf, winnerOf, settled}
+use Rattle.labels.specs.declared.Candidate.{Candidate}
+use Rattle.labels.specs.LabelWords.{cursorOf, winnerOf, settled}
 use Rattle.labels.specs.Lists.{LabelAdded}
-use Rattle.candidates.specs.Candidates.{resultAt}
-use Rattle.winners.specs.Keys.{keyAt}
-use Rattle.winners.specs.Mending.{LeastKey}
+use Rattle.winners.specs.Keys.{keyAt, candidate}
+use Rattle.winners.specs.Mending.{Live, LeastKey}
 use Rattle.winners.proofs.Keys.{key-none, key-shut}
 use Rattle.winners.proofs.Steps.{leads}
 use Rattle.search.specs.declared.Turn.{Turn}
@@ -37,10 +37,9 @@ module _ (trip : Trip) (c : State) where
 
 module _ (trip : Trip) (sound : SoundTrip trip) {ws hs ss fs : List ℕ} {n : ℕ} (U : Underway trip ws hs ss fs n) where
   -- the label that leads, with a candidate, has the lowest
-  pub leader-chosen : (r : ℕ) (c : State) → 1 ≤ r → LeastKey trip ws n r → 1 ≤ cursorOf ws r
-      → c ≡ resultAt trip (labelAt ws r) (cursorOf ws r) → Chosen trip ws n r c
-  leader-chosen r c low lead has is =
-      record { low = low; high = lead .within; has = has; is = is; winner = is-winner trip sound ws n (U .ready) r lead low has }
+  pub leader-chosen : (r : ℕ) (c : State) → LeastKey trip ws n r → Live trip ws r → c ≡ candidate trip ws r → Chosen trip ws n r c
+  leader-chosen r c lead live is =
+      record { low = live .low; high = lead .within; has = live .has; is = is; winner = is-winner trip sound ws n (U .ready) r lead (live .low) (live .has) }
 
   -- a leader without a candidate: there is none
   pub leader-none : LeastKey trip ws n 0 → EndsWithout trip ws n
@@ -51,12 +50,12 @@ module _ (trip : Trip) (sound : SoundTrip trip) {ws hs ss fs : List ℕ} {n : �
 
   -- the target is reached
   pub reaches : (r : ℕ) (c : State) → Chosen trip ws n r c → (Covered covers (settled ws n) c → ⊥) → c .junction ≡ trip .order .target
-      → {ws₁ hs′ ss′ fs′ : List ℕ} → LabelAdded ws ws₁ hs′ ss′ fs′ n c r 0 → EndsFound trip ws₁ (n + 1)
-  reaches r c won new home {ws₁} {hs′} {ss′} {fs′} added =
+      → {ws₁ hs′ ss′ fs′ : List ℕ} {u : Candidate} → LabelAdded ws ws₁ hs′ ss′ fs′ n c r u → EndsFound trip ws₁ (n + 1)
+  reaches r c won new home {ws₁} {hs′} {ss′} {fs′} {u} added =
       record {
         answer = c;
         room = added .lists .room;
-        ended = ends-found trip sound U r c won new (at-home trip c home) ws₁ hs′ ss′ fs′ 0 added;
+        ended = ends-found trip sound U r c won new (at-home trip c home) ws₁ hs′ ss′ fs′ u added;
       }
 
   -- no key is below the root's

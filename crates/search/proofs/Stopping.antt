@@ -12,6 +12,7 @@ use Rattle.theory.specs.States.{Covered}
 use Rattle.journeys.specs.Journeys.{atTarget}
 use Rattle.journeys.specs.Labels.{labelCount}
 use Rattle.states.specs.States.{covers}
+use Rattle.labels.specs.declared.Candidate.{Candidate}
 use Rattle.labels.specs.LabelWords.{settled}
 use Rattle.labels.specs.Lists.{LabelAdded}
 use Rattle.winners.specs.Keys.{noKey, keyAt}
@@ -40,7 +41,7 @@ module _ (trip : Trip) (sound : SoundTrip trip) {ws hs ss fs : List ℕ} {n : �
         omega (arith, states-length trip ws n, turn-full trip sound (settled ws n) (cursorsOf ws n) (parentsOf ws n) (U .loop) (r - 1) (won .winner) loop-new)
 
     -- at target: the candidate is the answer, and the last label
-    pub ends-found : T (atTarget trip c) → (ws₁ hs′ ss′ fs′ : List ℕ) (u : ℕ) → LabelAdded ws ws₁ hs′ ss′ fs′ n c r u
+    pub ends-found : T (atTarget trip c) → (ws₁ hs′ ss′ fs′ : List ℕ) (u : Candidate) → LabelAdded ws ws₁ hs′ ss′ fs′ n c r u
         → Ended trip (some c) (settled ws₁ (n + 1)) (parentsOf ws₁ (n + 1))
     ends-found home ws₁ hs′ ss′ fs′ u A =
         let back : r - 1 + 1 ≡ r = omega (arith, won .low) in

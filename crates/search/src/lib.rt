@@ -1,7 +1,5 @@
 // The search: settles labels in rank order until one is at the target, none is left, or the space is full.
-ghost use mathlib.Core.Path.{_≡_};
-ghost use mathlib.Core.List.{List};
-ghost use Prim.Native.Nat.{ℕ, _+_, _*_, _<_, _≤_};
+ghost use Prim.Native.Nat.{_+_, _*_, _<_, _≤_};
 ghost use lib.Dec.{T};
 ghost use lib.ListN.{length};
 ghost use Rattle.moves.specs.Trip.{junctionsIn};
@@ -10,21 +8,23 @@ ghost use Rattle.theory.specs.States.{Covered};
 ghost use Rattle.journeys.specs.Journeys.{atTarget};
 ghost use Rattle.states.specs.States.{covers};
 ghost use Rattle.states.specs.LabelSpace.{labelWords, mostLabels};
-ghost use Rattle.labels.specs.LabelWords.{labelAt, cursorOf, winnerOf, settled};
+ghost use Rattle.labels.specs.LabelWords.{winnerOf, settled};
 ghost use Rattle.labels.specs.Lists.{Lists, LabelAdded};
-ghost use Rattle.candidates.specs.Candidates.{resultAt};
-ghost use Rattle.winners.specs.Keys.{keyAt, Sound};
-ghost use Rattle.winners.specs.Mending.{LeastKey};
+ghost use Rattle.candidates.specs.Candidates.{noCandidate};
+ghost use Rattle.winners.specs.Keys.{keyAt};
+ghost use Rattle.winners.specs.Mending.{Live, LeastKey};
 ghost use Rattle.search.specs.Underway.{Underway, Chosen, Onward};
 ghost use Rattle.search.specs.Turns.{TurnSays, OutcomeSays};
-ghost use Rattle.search.specs.Beginning.{AllAre, Begun};
+ghost use Rattle.search.specs.Beginning.{Begun};
 ghost use Rattle.search.specs.Searched.{Searched};
-use candidates::Bound;
+use labels::Candidate;
 use moves::Run;
 use roadmap::Sizes;
 use states::State;
 
-const LARGEST_WORD: u32 = 4294967295;
+// Arrays of this length serve every map with fewer junctions. They are cleared for each search, and
+// those for any map are twelve times as long.
+const FEW_ENTRIES: usize = 1024;
 
 // How a search ends: the last of so many labels is the answer, there are so many labels and no
 // journey, or there are more labels than fit.
@@ -42,18 +42,7 @@ pub enum Turn {
     Full,
 }
 
-// The candidate of label w.
-fn candidate_at(map: &[u8], run: Run, words: &[u32], w: usize) -> State
-    requires { ⌜ Accepted (now map) run ⌝ }
-    requires { ⌜ (1 ≤ w) × Sound (tripIn (now map) run) (now words) w × (1 ≤ cursorOf (now words) w) ⌝ }
-    ensures { λ r. ⌜ r ≡ resultAt (tripIn (now (map .entry)) run) (labelAt (now (words .entry)) w) (cursorOf (now (words .entry)) w) ⌝ }
-{
-    let state = labels::read_label(words, w);
-    let cursor = labels::cursor(words, w);
-    candidates::result_at(map, run, state, cursor)
-}
-
-// Label w's candidate is covered: the label's cursor moves on to its next.
+// Label w's candidate is covered: the label gets its next.
 fn pass_over(
     map: &[u8],
     run: Run,
@@ -72,8 +61,19 @@ fn pass_over(
     ensures { λ _. ⌜ Onward (tripIn (now (map .entry)) run) (keyAt (tripIn (now (map .entry)) run) (now (words .entry)) w) (now (words .exit)) (now (heads .entry)) (now (spells .entry)) (now (shifts .entry)) n ⌝ }
 {
     let state = labels::read_label(words, w);
-    let bound = Bound::Above(candidate);
-    let next = candidates::next_candidate(map, run, words, heads, spells, shifts, n, state, bound);
+    let last = labels::read_candidate(words, w);
+    let next = candidates::candidate_after(
+        map,
+        run,
+        words,
+        heads,
+        spells,
+        shifts,
+        n,
+        state,
+        candidate,
+        last.more,
+    );
     winners::advance(map, run, words, n, w, next);
 }
 
@@ -105,7 +105,7 @@ fn settle_label(
         shifts,
         n,
         candidate,
-        Bound::Nothing,
+        candidate,
     );
     labels::add_label(words, heads, spells, shifts, n, candidate, w as u32, next);
     winners::enter(map, run, words, n);
@@ -122,11 +122,20 @@ fn settle_last(
     w: usize,
     candidate: State,
 )
-    requires { ⌜ Lists (now words) (now heads) (now spells) (now shifts) n × (candidate .junction < length (now heads)) ⌝ }
+    requires { ⌜ Lists (now words) (now heads) (now spells) (now shifts) n × (candidate .junction < length (now heads)) × (candidate .junction < 2147483648) ⌝ }
     requires { ⌜ (n + 1 < 4294967296) × (labelWords * (n + 1) ≤ length (now words)) × (w ≤ n) ⌝ }
-    ensures { λ _. ⌜ LabelAdded (now (words .entry)) (now (words .exit)) (now (heads .exit)) (now (spells .exit)) (now (shifts .exit)) n candidate w 0 ⌝ }
+    ensures { λ _. ⌜ LabelAdded (now (words .entry)) (now (words .exit)) (now (heads .exit)) (now (spells .exit)) (now (shifts .exit)) n candidate w noCandidate ⌝ }
 {
-    labels::add_label(words, heads, spells, shifts, n, candidate, w as u32, 0);
+    labels::add_label(
+        words,
+        heads,
+        spells,
+        shifts,
+        n,
+        candidate,
+        w as u32,
+        Candidate::NONE,
+    );
 }
 
 // Label w's candidate is covered by none: it is the next label, if one more fits.
@@ -160,7 +169,8 @@ fn settle(
     Turn::Goes(n + 1)
 }
 
-// Label w's candidate is the lowest: it is passed over if a label covers it, else settled.
+// Label w's candidate is the lowest: it is passed over if a label covers it, else settled. Those
+// before w did not when it was found.
 fn offer(
     map: &[u8],
     run: Run,
@@ -174,12 +184,13 @@ fn offer(
 ) -> Turn
     requires { ⌜ Accepted (now map) run ⌝ }
     requires { ⌜ Underway (tripIn (now map) run) (now words) (now heads) (now spells) (now shifts) n ⌝ }
-    requires { ⌜ (1 ≤ w) × LeastKey (tripIn (now map) run) (now words) n w × (1 ≤ cursorOf (now words) w) ⌝ }
+    requires { ⌜ LeastKey (tripIn (now map) run) (now words) n w × Live (tripIn (now map) run) (now words) w ⌝ }
     requires { ⌜ (n ≤ fit) × (fit ≤ mostLabels) × (labelWords * fit ≤ length (now words)) ⌝ }
     ensures { λ r. ⌜ TurnSays (tripIn (now (map .entry)) run) fit (keyAt (tripIn (now (map .entry)) run) (now (words .entry)) w) n (now (words .exit)) (now (heads .exit)) (now (spells .exit)) (now (shifts .exit)) r ⌝ }
 {
-    let candidate = candidate_at(map, run, words, w);
-    if labels::covered(words, heads, spells, shifts, n, candidate) {
+    let sizes = run.sizes;
+    let candidate = winners::candidate_at(map, run, sizes, words, w);
+    if labels::covered(words, heads, spells, shifts, n, w - 1, candidate) {
         pass_over(map, run, words, heads, spells, shifts, n, w, candidate);
         return Turn::Goes(n);
     }
@@ -206,7 +217,7 @@ fn take_turn(
     if w == 0 {
         return Turn::Exhausted;
     }
-    if labels::cursor(words, w) == 0 {
+    if labels::own_clock(words, w) == Candidate::NO_CLOCK {
         return Turn::Exhausted;
     }
     offer(map, run, words, heads, spells, shifts, fit, n, w)
@@ -241,28 +252,6 @@ fn settle_all(
     }
 }
 
-// Makes every word the value.
-fn set_all(words: &mut [u32], value: u32)
-    ensures { λ _. ⌜ AllAre (now (words .exit)) value ⌝ }
-{
-    let mut i = 0;
-    while i < words.len() {
-        words[i] = value;
-        i += 1;
-    }
-}
-
-// The lists of no labels: no junction has a last label, nor a spell or a shift below the largest
-// word.
-fn clear_lists(heads: &mut [u32], spells: &mut [u32], shifts: &mut [u32])
-    requires { ⌜ (length (now spells) ≡ length (now heads)) × (length (now shifts) ≡ length (now heads)) ⌝ }
-    ensures { λ _. ⌜ ((ws : List ℕ) → Lists ws (now (heads .exit)) (now (spells .exit)) (now (shifts .exit)) 0) ⌝ }
-{
-    set_all(heads, 0);
-    set_all(spells, LARGEST_WORD);
-    set_all(shifts, LARGEST_WORD);
-}
-
 // The start is label 1, without a parent.
 fn begin(
     map: &[u8],
@@ -279,24 +268,36 @@ fn begin(
 {
     let order = run.order;
     let start = states::start_of(order);
-    let next = candidates::next_candidate(
-        map,
-        run,
-        words,
-        heads,
-        spells,
-        shifts,
-        0,
-        start,
-        Bound::Nothing,
-    );
+    let next = candidates::next_candidate(map, run, words, heads, spells, shifts, 0, start, start);
     labels::add_label(words, heads, spells, shifts, 0, start, 0, next);
     winners::enter(map, run, words, 0);
 }
 
-// The search with room for so many labels, at least one. Which junctions have labels stands in
-// local arrays, one word a junction.
-fn search_labels(map: &[u8], run: Run, words: &mut [u32], fit: usize) -> Outcome
+// The search with room for so many labels, at least one. Which junctions have labels stands in three
+// arrays, one word a junction; all 0, they say that none has.
+fn search_in(
+    map: &[u8],
+    run: Run,
+    words: &mut [u32],
+    fit: usize,
+    heads: &mut [u32],
+    spells: &mut [u32],
+    shifts: &mut [u32],
+) -> Outcome
+    requires { ⌜ Accepted (now map) run ⌝ }
+    requires { ⌜ (1 ≤ fit) × (fit ≤ mostLabels) × (labelWords * fit ≤ length (now words)) ⌝ }
+    requires { ⌜ Lists (now words) (now heads) (now spells) (now shifts) 0 × (junctionsIn (tripIn (now map) run) < length (now heads)) ⌝ }
+    ensures { λ r. ⌜ OutcomeSays (tripIn (now (map .entry)) run) fit (now (words .exit)) r ⌝ }
+{
+    begin(map, run, words, heads, spells, shifts);
+    if run.order.source == run.order.target {
+        return Outcome::Found(1);
+    }
+    settle_all(map, run, words, heads, spells, shifts, fit)
+}
+
+// With arrays for any map.
+fn search_many(map: &[u8], run: Run, words: &mut [u32], fit: usize) -> Outcome
     requires { ⌜ Accepted (now map) run ⌝ }
     requires { ⌜ (1 ≤ fit) × (fit ≤ mostLabels) × (labelWords * fit ≤ length (now words)) ⌝ }
     ensures { λ r. ⌜ OutcomeSays (tripIn (now (map .entry)) run) fit (now (words .exit)) r ⌝ }
@@ -304,12 +305,32 @@ fn search_labels(map: &[u8], run: Run, words: &mut [u32], fit: usize) -> Outcome
     let mut heads = [0u32; Sizes::JUNCTION_ENTRIES];
     let mut spells = [0u32; Sizes::JUNCTION_ENTRIES];
     let mut shifts = [0u32; Sizes::JUNCTION_ENTRIES];
-    clear_lists(&mut heads, &mut spells, &mut shifts);
-    begin(map, run, words, &mut heads, &mut spells, &mut shifts);
-    if run.order.source == run.order.target {
-        return Outcome::Found(1);
+    search_in(map, run, words, fit, &mut heads, &mut spells, &mut shifts)
+}
+
+// With arrays for a small map.
+fn search_few(map: &[u8], run: Run, words: &mut [u32], fit: usize) -> Outcome
+    requires { ⌜ Accepted (now map) run ⌝ }
+    requires { ⌜ (1 ≤ fit) × (fit ≤ mostLabels) × (labelWords * fit ≤ length (now words)) ⌝ }
+    requires { ⌜ junctionsIn (tripIn (now map) run) < 1024 ⌝ }
+    ensures { λ r. ⌜ OutcomeSays (tripIn (now (map .entry)) run) fit (now (words .exit)) r ⌝ }
+{
+    let mut heads = [0u32; FEW_ENTRIES];
+    let mut spells = [0u32; FEW_ENTRIES];
+    let mut shifts = [0u32; FEW_ENTRIES];
+    search_in(map, run, words, fit, &mut heads, &mut spells, &mut shifts)
+}
+
+// The same, with arrays by the map's size.
+fn search_labels(map: &[u8], run: Run, words: &mut [u32], fit: usize) -> Outcome
+    requires { ⌜ Accepted (now map) run ⌝ }
+    requires { ⌜ (1 ≤ fit) × (fit ≤ mostLabels) × (labelWords * fit ≤ length (now words)) ⌝ }
+    ensures { λ r. ⌜ OutcomeSays (tripIn (now (map .entry)) run) fit (now (words .exit)) r ⌝ }
+{
+    if (run.sizes.junctions as usize) < FEW_ENTRIES {
+        return search_few(map, run, words, fit);
     }
-    settle_all(map, run, words, &mut heads, &mut spells, &mut shifts, fit)
+    search_many(map, run, words, fit)
 }
 
 // The search of an accepted run in lent words: only the labels that fit are touched.

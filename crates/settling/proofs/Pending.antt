@@ -5,6 +5,7 @@ use mathlib.Core.Bool.{not}
 use mathlib.Core.List.{List, [], _∷_, _++_, List·Memᴰ, Memᴰ·append-left}
 use mathlib.Core.Logic.{⊎-elim}
 use Prim.Native.Nat.{ℕ, _≤_}
+use native.Mathlib.Omega.{arith}
 use lib.Dec.{T}
 use Rattle.booleans.proofs.Tests.{T-cases}
 use Rattle.states.specs.declared.State.{State}
@@ -14,12 +15,11 @@ use Rattle.theory.specs.States.{Covered}
 use Rattle.theory.proofs.Sorting.{le-of-not}
 use Rattle.journeys.specs.Journeys.{succs}
 use Rattle.states.specs.States.{covers, ranksNoHigher}
-use Rattle.states.proofs.Compared.{rank-order}
+use Rattle.states.proofs.Compared.{rank-order, rank-clock}
 use Rattle.journeys.proofs.Journeys.{succs-in}
-use Rattle.journeys.proofs.Laws.{laws}
-use Rattle.candidates.specs.declared.Bound.{Bound}
+use Rattle.journeys.proofs.Laws.{clock-rises, laws}
 use Rattle.candidates.specs.Candidates.{moveAt, resultAt, Names}
-use Rattle.candidates.specs.Next.{NextIs}
+use Rattle.candidates.specs.Next.{above, Passes}
 use Rattle.settling.specs.Settling.{Pending}
 use Rattle.settling.proofs.Lists.{snoc-elim}
 
@@ -44,11 +44,11 @@ module _ (trip : Trip) where
 
   -- the candidate is covered, and the cursor moves on to the next
   pub pending-next : (L : List State) (s : State) (k v : ℕ) → 1 ≤ k → Pending trip L s k → Covered covers L (resultAt trip s k)
-      → NextIs trip L s (Bound.Above (resultAt trip s k)) v → Pending trip L s v
+      → Passes trip L s (resultAt trip s k) v → Pending trip L s v
   pending-next L s k v has p cov next =
       record {
-        named = next .names;
-        above = λ on l m. rank-order .trans l c (resultAt trip s v) (p .above has l m) (le-of-not rank-order c (resultAt trip s v) (next .above on));
+        named = next .named;
+        above = λ on l m. rank-order .trans l c (resultAt trip s v) (p .above has l m) (le-of-not rank-order c (resultAt trip s v) (next .higher on));
         closed = λ t mt below.
             ⊎-elim
             (λ (low : T (ranksNoHigher t c)).
@@ -63,12 +63,20 @@ module _ (trip : Trip) where
       c : State
       c = resultAt trip s k
 
+  -- a successor ranks strictly above its state
+  pub successor-above : SoundTrip trip → (s t : State) → List·Memᴰ t (succs trip s) → T (above s t)
+  successor-above sound s t mt =
+      ⊎-elim
+      (λ (low : T (ranksNoHigher t s)). absurd (omega (arith, rank-clock t s low, clock-rises trip sound .higher s t mt)))
+      (λ over. over)
+      (T-cases (ranksNoHigher t s))
+
   -- a label that no label ranks above gets its first cursor
   pub pending-first : SoundTrip trip → (L : List State) (s : State) (v : ℕ) → ((l : State) → List·Memᴰ l L → T (ranksNoHigher l s))
-      → NextIs trip L s Bound.Nothing v → Pending trip L s v
+      → Passes trip L s s v → Pending trip L s v
   pending-first sound L s v low next =
       record {
-        named = next .names;
-        above = λ has l m. rank-order .trans l s (resultAt trip s v) (low l m) (laws trip sound .rising s (resultAt trip s v) (candidate-in s v (next .names has)));
-        closed = λ t mt below. next .passed t mt tt below;
+        named = next .named;
+        above = λ has l m. rank-order .trans l s (resultAt trip s v) (low l m) (laws trip sound .rising s (resultAt trip s v) (candidate-in s v (next .named has)));
+        closed = λ t mt below. next .passed t mt (successor-above sound s t mt) below;
       }

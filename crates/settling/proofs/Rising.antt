@@ -12,9 +12,8 @@ use Rattle.states.specs.declared.State.{State}
 use Rattle.moves.specs.Trip.{Trip}
 use Rattle.theory.proofs.Sorting.{le-of-not, never-self}
 use Rattle.states.proofs.Compared.{rank-order}
-use Rattle.candidates.specs.declared.Bound.{Bound}
 use Rattle.candidates.specs.Candidates.{resultAt}
-use Rattle.candidates.specs.Next.{NextIs}
+use Rattle.candidates.specs.Next.{Passes}
 use Rattle.settling.specs.Settling.{stateAt, candidateOf, Searching, Winner, Later}
 use Rattle.settling.proofs.Lists.{set-elim}
 
@@ -23,7 +22,7 @@ module _ (trip : Trip) (L : List State) (C P : List ℕ) (s : Searching trip L C
   won = candidateOf trip L C w
 
   -- after the winner's cursor has moved on
-  pub covered-later : (v : ℕ) → NextIs trip L (stateAt trip L w) (Bound.Above won) v
+  pub covered-later : (v : ℕ) → Passes trip L (stateAt trip L w) won v
       → (w′ : ℕ) → Winner trip L (set C w v) w′ → Later won w (candidateOf trip L (set C w v) w′) w′
   covered-later v next w′ win′ =
       set-elim C w v (λ i k. 1 ≤ k → Later won w (resultAt trip (stateAt trip L i) k) i) (omega (arith, s .as-many, win .within)) own w′ (other w′ (win′ .within)) (win′ .has)
@@ -31,8 +30,8 @@ module _ (trip : Trip) (L : List State) (C P : List ℕ) (s : Searching trip L C
       own : 1 ≤ v → Later won w (resultAt trip (stateAt trip L w) v) w
       own has =
           record {
-            rank = le-of-not rank-order won (resultAt trip (stateAt trip L w) v) (next .above has);
-            number = λ e. absurd (never-self rank-order (resultAt trip (stateAt trip L w) v) won (sym e) (next .above has));
+            rank = le-of-not rank-order won (resultAt trip (stateAt trip L w) v) (next .higher has);
+            number = λ e. absurd (never-self rank-order (resultAt trip (stateAt trip L w) v) won (sym e) (next .higher has));
           }
 
       other : (i : ℕ) → i < length L → ¬ (i ≡ w) → 1 ≤ getD C i 0 → Later won w (candidateOf trip L C i) i

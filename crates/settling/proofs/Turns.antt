@@ -20,9 +20,8 @@ use Rattle.states.proofs.Compared.{rank-order, same-decides}
 use Rattle.journeys.proofs.Laws.{laws}
 use Rattle.journeys.proofs.Labels.{TopIn}
 use Rattle.journeys.proofs.Endings.{LowestIn}
-use Rattle.candidates.specs.declared.Bound.{Bound}
 use Rattle.candidates.specs.Candidates.{resultAt}
-use Rattle.candidates.specs.Next.{NextIs}
+use Rattle.candidates.specs.Next.{Passes}
 use Rattle.settling.specs.Settling.{stateAt, candidateOf, Pending, Parents, Searching, Winner}
 use Rattle.settling.proofs.Lists.{snoc-elim, snoc-at, set-elim, state-kept, state-new, cursor-kept, cursor-new, candidate-kept, candidate-new}
 use Rattle.settling.proofs.Pending.{candidate-in, pending-first, pending-wider, pending-next}
@@ -37,7 +36,7 @@ module _ (trip : Trip) (sound : SoundTrip trip) where
   begin-parents = record { as-many = refl; root = refl; rest = λ i low h. absurd (omega arith); before = λ i low h. absurd (omega arith) }
 
   -- the start alone, which is not at target
-  pub begin : (v : ℕ) → ¬ T (atTarget trip (startIn trip)) → NextIs trip (startIn trip ∷ []) (startIn trip) Bound.Nothing v
+  pub begin : (v : ℕ) → ¬ T (atTarget trip (startIn trip)) → Passes trip (startIn trip ∷ []) (startIn trip) (startIn trip) v
       → Searching trip (startIn trip ∷ []) (v ∷ []) (0 ∷ [])
   begin v away next =
       record {
@@ -59,7 +58,7 @@ module _ (trip : Trip) (sound : SoundTrip trip) where
 module _ (trip : Trip) (L : List State) (C P : List ℕ) (s : Searching trip L C P) where
   -- a label's candidate is covered, and its cursor moves on
   pub advanced : (w v : ℕ) → w < length L → 1 ≤ getD C w 0 → Covered covers L (candidateOf trip L C w)
-      → NextIs trip L (stateAt trip L w) (Bound.Above (candidateOf trip L C w)) v → Searching trip L (set C w v) P
+      → Passes trip L (stateAt trip L w) (candidateOf trip L C w) v → Searching trip L (set C w v) P
   advanced w v h has cov next =
       record {
         some-label = s .some-label;
@@ -76,12 +75,12 @@ module _ (trip : Trip) (L : List State) (C P : List ℕ) (s : Searching trip L C
 
 -- A turn whose candidate is covered: the winner's cursor moves on.
 pub turn-covered : (trip : Trip) (L : List State) (C P : List ℕ) → Searching trip L C P → (w : ℕ) → Winner trip L C w → (v : ℕ) → Covered covers L (candidateOf trip L C w)
-    → NextIs trip L (stateAt trip L w) (Bound.Above (candidateOf trip L C w)) v → Searching trip L (set C w v) P
+    → Passes trip L (stateAt trip L w) (candidateOf trip L C w) v → Searching trip L (set C w v) P
 turn-covered trip L C P s w win v cov next = advanced trip L C P s w v (win .within) (win .has) cov next
 
 -- A turn whose candidate is not covered and not at target: first it becomes the next label, with u as its cursor, then the winner's cursor moves on.
 module _ (trip : Trip) (sound : SoundTrip trip) (L : List State) (C P : List ℕ) (s : Searching trip L C P) (w : ℕ) (win : Winner trip L C w)
-    (u : ℕ) (next : NextIs trip (L ++ candidateOf trip L C w ∷ []) (candidateOf trip L C w) Bound.Nothing u) where
+    (u : ℕ) (next : Passes trip (L ++ candidateOf trip L C w ∷ []) (candidateOf trip L C w) (candidateOf trip L C w) u) where
   abbrev won : State
   won = candidateOf trip L C w
 
@@ -106,7 +105,7 @@ module _ (trip : Trip) (sound : SoundTrip trip) (L : List State) (C P : List ℕ
       last : 1 ≤ getD (C ++ u ∷ []) (length L) 0 → T (ranksNoHigher won (candidateOf trip (L ++ won ∷ []) (C ++ u ∷ []) (length L)))
       last has =
           rw (candidate-new trip L won C u (s .as-many))
-          (laws trip sound .rising won (resultAt trip won u) (candidate-in trip won u (next .names (omega (arith, cursor-new trip L won C u (s .as-many), has)))))
+          (laws trip sound .rising won (resultAt trip won u) (candidate-in trip won u (next .named (omega (arith, cursor-new trip L won C u (s .as-many), has)))))
 
   module _ (new : ¬ Covered covers L won) (out : ¬ T (atTarget trip won)) where
     -- the candidate is the next label, and the winner its parent

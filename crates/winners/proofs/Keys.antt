@@ -19,10 +19,12 @@ use Rattle.moves.specs.Runs.{SoundTrip, RangeIn}
 use Rattle.moves.proofs.Rising.{range-after, clock-high, figures-high}
 use Rattle.states.specs.States.{figuresOf, ranksNoHigher}
 use Rattle.states.specs.RankNumber.{wordBase, Small, rankNumber, rankTop}
-use Rattle.labels.specs.LabelWords.{previousField, cursorField, at, labelAt, cursorOf, SameLabels}
+use Rattle.labels.specs.declared.Candidate.{Candidate}
+use Rattle.labels.specs.LabelWords.{previousField, cursorField, ownField, at, labelAt, cursorOf, candidateOf, Packs, SameLabels}
 use Rattle.labels.proofs.LabelWords.{same-label}
-use Rattle.candidates.specs.Candidates.{moveAt, resultAt, Names, Cursor}
-use Rattle.winners.specs.Keys.{noKey, keyFrom, keyAt, Sound, Entrant, Ready, OnlyWinners}
+use Rattle.candidates.specs.Candidates.{moveAt, resultAt, Names, Fitting}
+use Rattle.candidates.proofs.Results.{junction-some, junction-none}
+use Rattle.winners.specs.Keys.{noKey, keyFrom, keyAt, candidate, Sound, Entrant, Ready, OnlyWinners}
 use Rattle.states.proofs.Ranks.{number-low, rank-top}
 
 -- a rank number with a word after it is below the key of no candidate
@@ -46,10 +48,6 @@ key-shut trip ws (suc k) e = from-shut trip _ (suc k) _ e
 from-open : (trip : Trip) (s : State) (k cursor : ℕ) → 1 ≤ cursor → keyFrom trip s k cursor ≡ rankNumber (resultAt trip s cursor) * wordBase + k
 from-open trip s k zero low = absurd (omega arith)
 from-open trip s k (suc cursor) low = refl
-
--- the candidate of label k
-abbrev pub candidate : Trip → List ℕ → ℕ → State
-candidate trip ws k = resultAt trip (labelAt ws k) (cursorOf ws k)
 
 pub key-open : (trip : Trip) (ws : List ℕ) (k : ℕ) → 1 ≤ k → 1 ≤ cursorOf ws k → keyAt trip ws k ≡ rankNumber (candidate trip ws k) * wordBase + k
 unfolding keyAt
@@ -81,7 +79,7 @@ module _ (trip : Trip) (sound : SoundTrip trip) where
     pub key-below : (k : ℕ) → 1 ≤ k → Sound trip ws k → 1 ≤ cursorOf ws k → keyAt trip ws k < noKey
     key-below k low S live =
         rw (key-open trip ws k low live)
-        (below-none _ (result-small _ _ (S .range) (S .cursor live)) k (S .small))
+        (below-none _ (result-small _ _ (S .range) (S .fitting .named live)) k (S .small))
 
     pub key-top : (k : ℕ) → Entrant trip ws k → keyAt trip ws k ≤ noKey
     key-top k S = go (decLe k 0) (decLe (cursorOf ws k) 0)
@@ -106,10 +104,10 @@ module _ (trip : Trip) (sound : SoundTrip trip) where
     -- of labels with candidates a lower key is a lower rank, and on equal ranks a lower number
     module _ (a b : ℕ) (A : Sound trip ws a) (B : Sound trip ws b) (low-a : 1 ≤ a) (low-b : 1 ≤ b) (open-a : 1 ≤ cursorOf ws a) (open-b : 1 ≤ cursorOf ws b) where
       small-a : Small (candidate trip ws a)
-      small-a = result-small _ _ (A .range) (A .cursor open-a)
+      small-a = result-small _ _ (A .range) (A .fitting .named open-a)
 
       small-b : Small (candidate trip ws b)
-      small-b = result-small _ _ (B .range) (B .cursor open-b)
+      small-b = result-small _ _ (B .range) (B .fitting .named open-b)
 
       pub key-rank : keyAt trip ws a ≤ keyAt trip ws b → ranksNoHigher (candidate trip ws a) (candidate trip ws b) ≡ true
       key-rank h =
@@ -119,19 +117,35 @@ module _ (trip : Trip) (sound : SoundTrip trip) where
       key-tie h e =
           omega (arith, ap rankNumber e, key-open trip ws a low-a open-a, key-open trip ws b low-b open-b)
 
+-- a candidate of a state in range fits in its words
+pub fitting-packs : (trip : Trip) → SoundTrip trip → (s : State) (c : Candidate) → RangeIn trip s → Fitting trip s c → Packs c
+fitting-packs trip sound s c range fits = go (decLe (c .cursor) 0)
+  where
+    go : Dec (c .cursor ≤ 0) → Packs c
+    go (yes none) = record { cursor = omega arith; junction = omega (arith, fits .junction, junction-none trip s (c .cursor) none) }
+    go (no some) =
+        let low : 1 ≤ c .cursor = omega arith in
+        record {
+          cursor = omega (arith, fits .named low .high, sound .few-roads);
+          junction = omega (arith, fits .junction, junction-some trip s (c .cursor) low, result-range trip sound s (c .cursor) range (fits .named low) .high, sound .few);
+        }
+
 -- What leaves the keys as they are.
 pub same-key : (trip : Trip) (ws ws′ : List ℕ) (k : ℕ) → labelAt ws′ k ≡ labelAt ws k → cursorOf ws′ k ≡ cursorOf ws k → keyAt trip ws′ k ≡ keyAt trip ws k
 unfolding keyAt
 same-key trip ws ws′ zero l c = refl
 same-key trip ws ws′ (suc k) l c = ap₂ (λ (a : State) (x : ℕ). keyFrom trip a (suc k) x) l c
 
-pub same-sound : (trip : Trip) (ws ws′ : List ℕ) (k : ℕ) → length ws′ ≡ length ws → labelAt ws′ k ≡ labelAt ws k → cursorOf ws′ k ≡ cursorOf ws k → Sound trip ws k → Sound trip ws′ k
+pub same-cursor : {a b : Candidate} → a ≡ b → a .cursor ≡ b .cursor
+same-cursor e = ap (λ (c : Candidate). c .cursor) e
+
+pub same-sound : (trip : Trip) (ws ws′ : List ℕ) (k : ℕ) → length ws′ ≡ length ws → labelAt ws′ k ≡ labelAt ws k → candidateOf ws′ k ≡ candidateOf ws k → Sound trip ws k → Sound trip ws′ k
 same-sound trip ws ws′ k long l c S =
     record {
       room = rw long (S .room);
       small = S .small;
       range = subst (RangeIn trip) (sym l) (S .range);
-      cursor = subst₂ (λ (a : State) (x : ℕ). Cursor trip a x) (sym l) (sym c) (S .cursor);
+      fitting = subst₂ (λ (a : State) (x : Candidate). Fitting trip a x) (sym l) (sym c) (S .fitting);
     }
 
 -- a store of winners does
@@ -142,10 +156,10 @@ module _ (ws ws′ : List ℕ) (only : OnlyWinners ws ws′) where
     previous = λ k low high. only (at k previousField) (λ e. omega arith);
   }
 
-  only-cursor : (k : ℕ) → cursorOf ws′ k ≡ cursorOf ws k
-  only-cursor k = only (at k cursorField) (λ e. omega arith)
+  pub only-candidate : (k : ℕ) → candidateOf ws′ k ≡ candidateOf ws k
+  only-candidate k = rw (only (at k cursorField) (λ e. omega arith), only (at k ownField) (λ e. omega arith))
 
-  only-label : (k : ℕ) → 1 ≤ k → labelAt ws′ k ≡ labelAt ws k
+  pub only-label : (k : ℕ) → 1 ≤ k → labelAt ws′ k ≡ labelAt ws k
   only-label k low = same-label ws ws′ k (only-labels k) k low (le-refl k)
 
   pub key-kept : (trip : Trip) (k : ℕ) → keyAt trip ws′ k ≡ keyAt trip ws k
@@ -153,7 +167,7 @@ module _ (ws ws′ : List ℕ) (only : OnlyWinners ws ws′) where
     where
       go : Dec (k ≤ 0) → keyAt trip ws′ k ≡ keyAt trip ws k
       go (yes h) = let e : k ≡ 0 = omega arith in rw e (key-none trip ws′ ∙ sym (key-none trip ws))
-      go (no h) = same-key trip ws ws′ k (only-label k (omega arith)) (only-cursor k)
+      go (no h) = same-key trip ws ws′ k (only-label k (omega arith)) (same-cursor (only-candidate k))
 
   pub ready-kept : (trip : Trip) (n : ℕ) → length ws′ ≡ length ws → Ready trip ws n → Ready trip ws′ n
-  ready-kept trip n long R k low high = same-sound trip ws ws′ k long (only-label k low) (only-cursor k) (R k low high)
+  ready-kept trip n long R k low high = same-sound trip ws ws′ k long (only-label k low) (only-candidate k) (R k low high)

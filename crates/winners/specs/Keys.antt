@@ -7,8 +7,8 @@ use Rattle.states.specs.declared.State.{State}
 use Rattle.moves.specs.Trip.{Trip}
 use Rattle.moves.specs.Runs.{RangeIn}
 use Rattle.states.specs.LabelSpace.{labelWords}
-use Rattle.labels.specs.LabelWords.{winnerField, labelAt, cursorOf}
-use Rattle.candidates.specs.Candidates.{resultAt, Cursor}
+use Rattle.labels.specs.LabelWords.{winnerField, labelAt, cursorOf, candidateOf}
+use Rattle.candidates.specs.Candidates.{resultAt, Fitting}
 use Rattle.states.specs.RankNumber.{wordBase, rankNumber, rankTop}
 
 -- above the key of every candidate: that of a label without one, and of no label
@@ -24,12 +24,16 @@ unfoldable pub keyAt : Trip → List ℕ → ℕ → ℕ
 keyAt trip ws zero = noKey
 keyAt trip ws (suc k) = keyFrom trip (labelAt ws (suc k)) (suc k) (cursorOf ws (suc k))
 
--- label k stands in the words, with a state in range and a cursor that names a legal move of it
+-- the candidate of label k, where its cursor is not 0
+abbrev pub candidate : Trip → List ℕ → ℕ → State
+candidate trip ws k = resultAt trip (labelAt ws k) (cursorOf ws k)
+
+-- label k stands in the words, with a state in range and a candidate of it
 pub record Sound (trip : Trip) (ws : List ℕ) (k : ℕ) : Type 0 where
   pub room : labelWords * k ≤ length ws
   pub small : k < wordBase
   pub range : RangeIn trip (labelAt ws k)
-  pub cursor : Cursor trip (labelAt ws k) (cursorOf ws k)
+  pub fitting : Fitting trip (labelAt ws k) (candidateOf ws k)
 
 -- no label, or a sound one
 abbrev pub Entrant : Trip → List ℕ → ℕ → Type 0

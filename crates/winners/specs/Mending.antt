@@ -3,40 +3,33 @@ use mathlib.Core.Path.{_≡_}
 use mathlib.Core.Bool.{Bool, true, false}
 use mathlib.Core.List.{List}
 use mathlib.Core.Logic.{_⊎_}
-use Prim.Native.Nat.{ℕ, _+_, _*_, _/_, _%_, _≤_, _<_}
+use Prim.Native.Nat.{ℕ, zero, suc, _+_, _/_, _%_, _≤_, _<_}
 use lib.ListN.{length, getD, set}
-use Rattle.states.specs.declared.State.{State}
 use Rattle.moves.specs.Trip.{Trip}
 use Rattle.states.specs.LabelSpace.{labelWords}
-use Rattle.labels.specs.LabelWords.{cursorField, winnerField, at, cursorOf, settled}
+use Rattle.states.specs.RankNumber.{wordBase}
+use Rattle.labels.specs.declared.Candidate.{Candidate}
+use Rattle.labels.specs.LabelWords.{cursorField, winnerField, ownField, at, cursorOf, ownOf, candidateOf, settled}
 use Rattle.labels.specs.Tree.{Tree, Better, Mending, Entering}
-use Rattle.states.specs.RankNumber.{wordBase, Small, rankNumber}
+use Rattle.candidates.specs.Candidates.{noClock}
 use Rattle.winners.specs.declared.Contender.{Contender}
-use Rattle.winners.specs.Keys.{noKey, keyAt, Ready, OnlyWinners}
+use Rattle.winners.specs.Keys.{keyAt, Sound, Entrant, Ready, OnlyWinners}
 
--- the key of a label with a candidate, or without
-abbrev pub numberOf : Bool → State → ℕ → ℕ
-numberOf true s k = rankNumber s * wordBase + k
-numberOf false s k = noKey
+-- the clock of label k's candidate; above every clock for no label
+abbrev pub leadClock : List ℕ → ℕ → ℕ
+leadClock ws zero = noClock
+leadClock ws (suc k) = ownOf ws (suc k)
 
-abbrev pub contenderKey : Contender → ℕ
-contenderKey c = numberOf (c .live) (c .state) (c .label)
-
--- label k without a candidate
-pub record Shut (k : ℕ) (c : Contender) : Type 0 where
+-- label k, told by its candidate's clock
+pub record Told (ws : List ℕ) (k : ℕ) (c : Contender) : Type 0 where
   pub is : c .label ≡ k
-  pub closed : c .live ≡ false
-  pub state : Small (c .state)
+  pub clock : c .clock ≡ leadClock ws k
 
--- what is compared is in words
-pub record Fit (c : Contender) : Type 0 where
-  pub label : c .label < wordBase
-  pub state : Small (c .state)
-
--- the contender is told as its label is
+-- no label or a sound one, and its candidate's clock
 pub record Stands (trip : Trip) (ws : List ℕ) (c : Contender) : Type 0 where
-  pub fit : Fit c
-  pub key : keyAt trip ws (c .label) ≡ contenderKey c
+  pub small : c .label < wordBase
+  pub entrant : Entrant trip ws (c .label)
+  pub clock : c .clock ≡ leadClock ws (c .label)
 
 -- it is label k
 pub record Named (trip : Trip) (ws : List ℕ) (k : ℕ) (c : Contender) : Type 0 where
@@ -44,10 +37,26 @@ pub record Named (trip : Trip) (ws : List ℕ) (k : ℕ) (c : Contender) : Type 
   pub stands : Stands trip ws c
 
 -- r is the better of a and b
-pub record Best (a b r : Contender) : Type 0 where
+pub record Best (trip : Trip) (ws : List ℕ) (a b r : Contender) : Type 0 where
   pub one : (r ≡ a) ⊎ (r ≡ b)
-  pub first : contenderKey r ≤ contenderKey a
-  pub second : contenderKey r ≤ contenderKey b
+  pub first : keyAt trip ws (r .label) ≤ keyAt trip ws (a .label)
+  pub second : keyAt trip ws (r .label) ≤ keyAt trip ws (b .label)
+
+-- the one with the earlier clock, the first on a tie
+pub record Earlier (a b r : Contender) : Type 0 where
+  pub second : b .clock < a .clock → r ≡ b
+  pub first : a .clock ≤ b .clock → r ≡ a
+
+-- a label with a candidate
+pub record Live (trip : Trip) (ws : List ℕ) (k : ℕ) : Type 0 where
+  pub low : 1 ≤ k
+  pub sound : Sound trip ws k
+  pub has : 1 ≤ cursorOf ws k
+
+-- whether label a comes before label b
+pub record Precedes (trip : Trip) (ws : List ℕ) (a b : ℕ) (before : Bool) : Type 0 where
+  pub yes : before ≡ true → keyAt trip ws a ≤ keyAt trip ws b
+  pub no : before ≡ false → keyAt trip ws b ≤ keyAt trip ws a
 
 -- c is the best of l, k and r, and the winner of node k now
 pub record Decided (trip : Trip) (ws ws′ : List ℕ) (n l k r : ℕ) (c : Contender) : Type 0 where
@@ -75,13 +84,13 @@ pub record Mended (trip : Trip) (ws ws′ : List ℕ) (n : ℕ) : Type 0 where
   pub tree : Tree (keyAt trip ws′) ws′ n
   pub only : OnlyWinners ws ws′
 
--- label k has the cursor, the tree is right again, and nothing else has changed but winners
-pub record Advanced (trip : Trip) (ws ws′ : List ℕ) (n k cursor : ℕ) : Type 0 where
+-- label k has the candidate, the tree is right again, and nothing else has changed but winners
+pub record Advanced (trip : Trip) (ws ws′ : List ℕ) (n k : ℕ) (c : Candidate) : Type 0 where
   pub ready : Ready trip ws′ n
   pub tree : Tree (keyAt trip ws′) ws′ n
-  pub is-cursor : cursorOf ws′ k ≡ cursor
-  pub cursors : (m : ℕ) → 1 ≤ m → (m ≡ k → ⊥) → cursorOf ws′ m ≡ cursorOf ws m
-  pub others : (p : ℕ) → (p % labelWords ≡ winnerField → ⊥) → (p % labelWords ≡ cursorField → ⊥) → getD ws′ p 0 ≡ getD ws p 0
+  pub is-candidate : candidateOf ws′ k ≡ c
+  pub candidates : (m : ℕ) → 1 ≤ m → (m ≡ k → ⊥) → candidateOf ws′ m ≡ candidateOf ws m
+  pub others : (p : ℕ) → (p % labelWords ≡ winnerField → ⊥) → (p % labelWords ≡ cursorField → ⊥) → (p % labelWords ≡ ownField → ⊥) → getD ws′ p 0 ≡ getD ws p 0
   pub settled : settled ws′ n ≡ settled ws n
 
 -- label n + 1, told as c, has come in, and the nodes from j up are left to mend

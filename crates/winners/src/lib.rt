@@ -1,77 +1,106 @@
 // The winner tree over settled labels: the label whose candidate ranks lowest, the lowest number on
-// a tie. Node k is label k, and holds the winner of its subtree.
+// a tie. Node k is label k, and holds the winner of its subtree. A mended path carries a label's
+// number and its candidate's clock; whole candidates are worked out only where two clocks are equal.
+ghost use mathlib.Core.Path.{_≡_};
 ghost use Prim.Native.Nat.{_+_, _*_, _/_, _<_, _≤_};
 ghost use lib.ListN.{length};
 ghost use Rattle.moves.specs.Runs.{Accepted, tripIn};
 ghost use Rattle.states.specs.LabelSpace.{labelWords};
 ghost use Rattle.labels.specs.LabelWords.{labelAt};
 ghost use Rattle.labels.specs.Tree.{Tree, TreeBut, Entering};
-ghost use Rattle.candidates.specs.Candidates.{Cursor};
-ghost use Rattle.winners.specs.Keys.{keyAt, Entrant, Ready};
-ghost use Rattle.winners.specs.Mending.{Shut, Fit, Stands, Named, Best, Decided, Carries, Climbed, Mended, Advanced, Enters, Placed, Leading};
+ghost use Rattle.candidates.specs.Candidates.{Fitting};
+ghost use Rattle.winners.specs.Keys.{keyAt, candidate, Ready};
+ghost use Rattle.winners.specs.Mending.{Told, Stands, Best, Earlier, Live, Precedes, Decided, Carries, Climbed, Mended, Advanced, Enters, Placed, Leading};
+use labels::Candidate;
 use moves::Run;
+use roadmap::Sizes;
 use states::State;
 
-// A label with its candidate, if it has one; label 0 is none.
+// A label and its candidate's clock; label 0 is none.
 struct Contender {
     label: usize,
-    live: bool,
-    state: State,
-}
-
-fn shut(k: usize) -> Contender
-    ensures { λ r. ⌜ Shut k r ⌝ }
-{
-    Contender {
-        label: k,
-        live: false,
-        state: State::NOWHERE,
-    }
+    clock: u32,
 }
 
 // Label k as a contender.
-fn candidate_of(map: &[u8], run: Run, words: &[u32], k: usize) -> Contender
-    requires { ⌜ Accepted (now map) run ⌝ }
-    requires { ⌜ Entrant (tripIn (now map) run) (now words) k ⌝ }
-    ensures { λ r. ⌜ Named (tripIn (now (map .entry)) run) (now (words .entry)) k r ⌝ }
+fn contender_of(words: &[u32], k: usize) -> Contender
+    requires { ⌜ (1 ≤ k → labelWords * k ≤ length (now words)) ⌝ }
+    ensures { λ r. ⌜ Told (now (words .entry)) k r ⌝ }
 {
     if k == 0 {
-        return shut(k);
+        return Contender {
+            label: 0,
+            clock: Candidate::NO_CLOCK,
+        };
     }
-    let cursor = labels::cursor(words, k);
-    if cursor == 0 {
-        return shut(k);
-    }
-    let label = labels::read_label(words, k);
-    let state = candidates::result_at(map, run, label, cursor);
     Contender {
         label: k,
-        live: true,
-        state: state,
+        clock: labels::own_clock(words, k),
     }
 }
 
-// The better of two: by the candidates' ranks, the lower label on a tie.
-fn better(a: Contender, b: Contender) -> Contender
-    requires { ⌜ Fit a × Fit b ⌝ }
-    ensures { λ r. ⌜ Best a b r ⌝ }
+// The state of label k's candidate. `map` and `run` are there for the contract.
+pub fn candidate_at(map: &[u8], run: Run, sizes: Sizes, words: &[u32], k: usize) -> State
+    requires { ⌜ Accepted (now map) run × (sizes ≡ run .sizes) ⌝ }
+    requires { ⌜ Live (tripIn (now map) run) (now words) k ⌝ }
+    ensures { λ r. ⌜ r ≡ candidate (tripIn (now (map .entry)) run) (now (words .entry)) k ⌝ }
 {
-    if !b.live {
+    let label = labels::read_label(words, k);
+    let next = labels::read_candidate(words, k);
+    candidates::result_by(map, run, sizes, label, next)
+}
+
+// Whether label a comes before label b, both with candidates: by the candidates' ranks, the lower
+// label on a tie.
+fn precedes(map: &[u8], run: Run, sizes: Sizes, words: &[u32], a: usize, b: usize) -> bool
+    requires { ⌜ Accepted (now map) run × (sizes ≡ run .sizes) ⌝ }
+    requires { ⌜ Live (tripIn (now map) run) (now words) a × Live (tripIn (now map) run) (now words) b ⌝ }
+    ensures { λ r. ⌜ Precedes (tripIn (now (map .entry)) run) (now (words .entry)) a b r ⌝ }
+{
+    let x = candidate_at(map, run, sizes, words, a);
+    let y = candidate_at(map, run, sizes, words, b);
+    if a < b {
+        return states::ranks_no_higher(x, y);
+    }
+    !states::ranks_no_higher(y, x)
+}
+
+// The better of two with one clock.
+fn tied(map: &[u8], run: Run, words: &[u32], a: Contender, b: Contender) -> Contender
+    requires { ⌜ Accepted (now map) run ⌝ }
+    requires { ⌜ Stands (tripIn (now map) run) (now words) a × Stands (tripIn (now map) run) (now words) b × (a .clock ≡ b .clock) ⌝ }
+    ensures { λ r. ⌜ Best (tripIn (now (map .entry)) run) (now (words .entry)) a b r ⌝ }
+{
+    if a.clock == Candidate::NO_CLOCK {
         return a;
     }
-    if !a.live {
-        return b;
+    let sizes = run.sizes;
+    if precedes(map, run, sizes, words, a.label, b.label) {
+        return a;
     }
-    if a.label < b.label {
-        if states::ranks_no_higher(a.state, b.state) {
-            return a;
-        }
-        return b;
-    }
-    if states::ranks_no_higher(b.state, a.state) {
+    b
+}
+
+// The one with the earlier clock.
+fn earlier(a: Contender, b: Contender) -> Contender
+    ensures { λ r. ⌜ Earlier a b r ⌝ }
+{
+    if b.clock < a.clock {
         return b;
     }
     a
+}
+
+// The better of two.
+fn better(map: &[u8], run: Run, words: &[u32], a: Contender, b: Contender) -> Contender
+    requires { ⌜ Accepted (now map) run ⌝ }
+    requires { ⌜ Stands (tripIn (now map) run) (now words) a × Stands (tripIn (now map) run) (now words) b ⌝ }
+    ensures { λ r. ⌜ Best (tripIn (now (map .entry)) run) (now (words .entry)) a b r ⌝ }
+{
+    if a.clock == b.clock {
+        return tied(map, run, words, a, b);
+    }
+    earlier(a, b)
 }
 
 // Stores at node k the best of a child's winner, of label k, and of the other child's winner.
@@ -90,26 +119,12 @@ fn decide(
     requires { ⌜ (1 ≤ k) × (k ≤ n) × (below .label ≤ n) × (other ≤ n) ⌝ }
     ensures { λ r. ⌜ Decided (tripIn (now (map .entry)) run) (now (words .entry)) (now (words .exit)) n (below .label) k other r ⌝ }
 {
-    let own = candidate_of(map, run, words, k);
-    let between = better(below, own);
-    let beside = candidate_of(map, run, words, other);
-    let best = better(between, beside);
+    let own = contender_of(words, k);
+    let between = better(map, run, words, below, own);
+    let beside = contender_of(words, other);
+    let best = better(map, run, words, between, beside);
     labels::set_winner(words, k, best.label as u32);
     best
-}
-
-// The node of label i itself.
-fn begin(map: &[u8], run: Run, words: &mut [u32], n: usize, i: usize) -> Contender
-    requires { ⌜ Accepted (now map) run ⌝ }
-    requires { ⌜ Ready (tripIn (now map) run) (now words) n ⌝ }
-    requires { ⌜ TreeBut (keyAt (tripIn (now map) run) (now words)) (now words) n i ⌝ }
-    requires { ⌜ (1 ≤ i) × (i ≤ n) ⌝ }
-    ensures { λ r. ⌜ Climbed (tripIn (now (map .entry)) run) (now (words .entry)) (now (words .exit)) n i r ⌝ }
-{
-    let left = labels::winner_within(words, n, 2 * i) as usize;
-    let right = labels::winner_within(words, n, 2 * i + 1) as usize;
-    let below = candidate_of(map, run, words, left);
-    decide(map, run, words, n, i, below, right)
 }
 
 // The node above j, from the winner below j and that of j's sibling.
@@ -123,7 +138,8 @@ fn climb(map: &[u8], run: Run, words: &mut [u32], n: usize, j: usize, best: Cont
     decide(map, run, words, n, above, best, other)
 }
 
-// Mends the tree after label i's cursor has changed: the nodes from i up to the root.
+// Mends the tree after label i's candidate has changed: the nodes from i up to the root, beginning
+// below label i's own.
 pub fn mend(map: &[u8], run: Run, words: &mut [u32], n: usize, i: usize)
     requires { ⌜ Accepted (now map) run ⌝ }
     requires { ⌜ Ready (tripIn (now map) run) (now words) n ⌝ }
@@ -131,8 +147,9 @@ pub fn mend(map: &[u8], run: Run, words: &mut [u32], n: usize, i: usize)
     requires { ⌜ (1 ≤ i) × (i ≤ n) ⌝ }
     ensures { λ _. ⌜ Mended (tripIn (now (map .entry)) run) (now (words .entry)) (now (words .exit)) n ⌝ }
 {
-    let mut best = begin(map, run, words, n, i);
-    let mut j = i;
+    let left = labels::winner_within(words, n, 2 * i) as usize;
+    let mut best = contender_of(words, left);
+    let mut j = 2 * i;
     while 1 < j {
         best = climb(map, run, words, n, j, best);
         j = j / 2;
@@ -140,16 +157,33 @@ pub fn mend(map: &[u8], run: Run, words: &mut [u32], n: usize, i: usize)
 }
 
 // Label k's candidate is another now, or none.
-pub fn advance(map: &[u8], run: Run, words: &mut [u32], n: usize, k: usize, cursor: u32)
+pub fn advance(map: &[u8], run: Run, words: &mut [u32], n: usize, k: usize, next: Candidate)
     requires { ⌜ Accepted (now map) run ⌝ }
     requires { ⌜ Ready (tripIn (now map) run) (now words) n ⌝ }
     requires { ⌜ Tree (keyAt (tripIn (now map) run) (now words)) (now words) n ⌝ }
     requires { ⌜ (1 ≤ k) × (k ≤ n) ⌝ }
-    requires { ⌜ Cursor (tripIn (now map) run) (labelAt (now words) k) cursor ⌝ }
-    ensures { λ _. ⌜ Advanced (tripIn (now (map .entry)) run) (now (words .entry)) (now (words .exit)) n k cursor ⌝ }
+    requires { ⌜ Fitting (tripIn (now map) run) (labelAt (now words) k) next ⌝ }
+    ensures { λ _. ⌜ Advanced (tripIn (now (map .entry)) run) (now (words .entry)) (now (words .exit)) n k next ⌝ }
 {
-    labels::set_cursor(words, k, cursor);
+    labels::set_candidate(words, k, next);
     mend(map, run, words, n, k);
+}
+
+// Whether the new label comes before a node's winner. `precedes` is called from here and from
+// `tied`, which keeps it out of the loop over the nodes of a path.
+fn wins(map: &[u8], run: Run, words: &[u32], old: Contender, new: Contender) -> bool
+    requires { ⌜ Accepted (now map) run ⌝ }
+    requires { ⌜ Stands (tripIn (now map) run) (now words) old × Stands (tripIn (now map) run) (now words) new ⌝ }
+    ensures { λ r. ⌜ Precedes (tripIn (now (map .entry)) run) (now (words .entry)) (new .label) (old .label) r ⌝ }
+{
+    if old.clock != new.clock {
+        return new.clock < old.clock;
+    }
+    if old.clock == Candidate::NO_CLOCK {
+        return false;
+    }
+    let sizes = run.sizes;
+    precedes(map, run, sizes, words, new.label, old.label)
 }
 
 // Whether the new label n + 1 wins node j, where it then is stored.
@@ -158,9 +192,8 @@ fn place(map: &[u8], run: Run, words: &mut [u32], n: usize, j: usize, new: Conte
     requires { ⌜ Enters (tripIn (now map) run) (now words) n j new × (1 ≤ j) ⌝ }
     ensures { λ r. ⌜ Placed (tripIn (now (map .entry)) run) (now (words .entry)) (now (words .exit)) n j new r ⌝ }
 {
-    let old = candidate_of(map, run, words, labels::winner(words, j) as usize);
-    let best = better(old, new);
-    if best.label != new.label {
+    let old = contender_of(words, labels::winner(words, j) as usize);
+    if !wins(map, run, words, old, new) {
         return false;
     }
     labels::set_winner(words, j, new.label as u32);
@@ -174,7 +207,7 @@ pub fn enter(map: &[u8], run: Run, words: &mut [u32], n: usize)
     requires { ⌜ Entering (keyAt (tripIn (now map) run) (now words)) (now words) n ((n + 1) / 2) ⌝ }
     ensures { λ _. ⌜ Mended (tripIn (now (map .entry)) run) (now (words .entry)) (now (words .exit)) (n + 1) ⌝ }
 {
-    let new = candidate_of(map, run, words, n + 1);
+    let new = contender_of(words, n + 1);
     let mut j = (n + 1) / 2;
     while 0 < j {
         if !place(map, run, words, n, j, new) {

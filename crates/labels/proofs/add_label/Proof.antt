@@ -8,11 +8,11 @@ use Rattle.labels.proofs.add_label.Tie as tie
 
 returns : tie.Need-returns
 returns c =
-    let s = c .before .before .before .before .before .before .before .before .before .before .before .before .before .before .before .before .before .before in
-    let stored = c .before .before .before .before .before .before .before .before .before .before .store in
-    let new = label-stored _ (stored .last .0) _ (s .args .label) _ _ _ (s .pre .1 .1) (stored .ensures) in
-    let spells = c .before .before .before .before .before .before .lower in
-    let shifts = c .before .before .lower2 in
+    let s = c .before .before .before .before .before .before .before .before .before .before .before .before .before .before .before .before .before .before .before .before in
+    let stored = c .before .before .before .before .before .before .before .before .before .before .before .before .store in
+    let new = label-stored _ (stored .last .0) _ (s .args .label) _ (s .args .c) _ (s .pre .1 .1 .1) (s .pre .1 .0 .1) (stored .ensures) in
+    let spells = c .before .before .before .before .before .before .before .raise in
+    let shifts = c .before .before .raise2 in
     record {
       added = new .0;
       lists = lists-added (new .0) (s .pre .0 .0) (s .pre .0 .1) (omega (arith, stored .kept .0)) (new .1) (spells .ensures) (spells .kept .0) (shifts .ensures) (shifts .kept .0);
@@ -33,7 +33,9 @@ add-label-spec =
     (λ c. search needs)
     (λ c. search needs)
     (λ c. search needs)
+    (λ c. search needs)
     (λ c κs. search needs)
+    (λ c. search needs)
     (λ c κs. search needs)
     (λ c. search needs)
     (λ c. search needs)

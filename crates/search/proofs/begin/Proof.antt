@@ -6,6 +6,7 @@ use borrow.Author.Needs.{needs}
 use Rattle.moves.specs.Runs.{tripIn}
 use Rattle.moves.proofs.Trips.{run-tied}
 use Rattle.moves.proofs.Rising.{run-sound}
+use Rattle.winners.proofs.Keys.{fitting-packs}
 use Rattle.winners.proofs.Steps.{entering}
 use Rattle.search.proofs.Beginning.{start-within, first-ready, begun}
 use Rattle.search.proofs.begin.Statement.{statement}
@@ -14,14 +15,17 @@ use Rattle.search.proofs.begin.Tie as tie
 next-candidate-requires : tie.Need-next-candidate-requires
 next-candidate-requires c κs =
     let s = c .before .before .before .before .before .before .before .before .before .before .before in
-    (s .pre .0, (start-within (run-tied (s .args .map .now) (s .args .run)) (run-sound (s .args .map .now) (s .args .run) (s .pre .0)) (c .before .before .before .before .start-of .ensures), (s .pre .1 .0, s .pre .1 .1 .0)))
+    let a = s .args in
+    (s .pre .0, (start-within (run-tied (a .map .now) (a .run)) (run-sound (a .map .now) (a .run) (s .pre .0)) (c .before .before .before .before .start-of .ensures), (s .pre .1 .0, s .pre .1 .1 .0)))
 
 add-label-requires : tie.Need-add-label-requires
 add-label-requires c κs =
     let s = c .before .before .before .before .before .before .before .before .before .before .before .before .before .before .before .before in
-    let range = start-within (run-tied (s .args .map .now) (s .args .run)) (run-sound (s .args .map .now) (s .args .run) (s .pre .0)) (c .before .before .before .before .before .before .before .before .before .start-of .ensures) in
-    let here : c .before .before .before .before .before .before .before .before .before .start-of .result .junction < length (s .args .heads .now) = omega (arith, range .high, s .pre .1 .1 .0) in
-    ((s .pre .1 .0, here), (omega arith, s .pre .1 .1 .1))
+    let a = s .args in
+    let sound = run-sound (a .map .now) (a .run) (s .pre .0) in
+    let range = start-within (run-tied (a .map .now) (a .run)) sound (c .before .before .before .before .before .before .before .before .before .start-of .ensures) in
+    let here : c .before .before .before .before .before .before .before .before .before .start-of .result .junction < length (a .heads .now) = omega (arith, range .high, s .pre .1 .1 .0) in
+    ((s .pre .1 .0, here), ((omega arith, s .pre .1 .1 .1), (omega (arith, range .high, sound .few), fitting-packs _ sound _ _ range (c .before .before .before .before .next-candidate .ensures .fitting))))
 
 enter-requires : tie.Need-enter-requires
 enter-requires c κs =

@@ -3,39 +3,44 @@ use borrow.Author.Needs.{needs}
 use Rattle.states.specs.declared.State.{State}
 use Rattle.moves.specs.Runs.{tripIn, RangeIn}
 use Rattle.moves.proofs.Rising.{run-sound}
-use Rattle.candidates.specs.declared.Bound.{Bound}
-use Rattle.candidates.specs.Candidates.{Cursor}
 use Rattle.labels.specs.LabelWords.{settled}
 use Rattle.candidates.specs.Next.{NextIs}
+use Rattle.search.proofs.Keeping.{told-spent}
 use Rattle.search.proofs.Turning.{passed-over}
 use Rattle.search.proofs.Climbing.{root-rises}
 use Rattle.search.proofs.pass_over.Statement.{statement}
 use Rattle.search.proofs.pass_over.Tie as tie
 
-next-candidate-requires : tie.Need-next-candidate-requires
-next-candidate-requires c κs =
-    let s = c .before .before .before .before .before .before .before .before in
-    let U = s .pre .1 .0 in
-    let won = s .pre .1 .1 .0 in
-    let is = c .before .read-label .ensures in
-    (s .pre .0, (subst (RangeIn (tripIn (s .args .map .now) (s .args .run))) (sym is) (U .ready _ (won .low) (won .high) .range), (U .lists, U .wide)))
-
-advance-requires : tie.Need-advance-requires
-advance-requires c κs =
+candidate-after-requires : tie.Need-candidate-after-requires
+candidate-after-requires c κs =
     let s = c .before .before .before .before .before .before .before .before .before .before in
-    let U = s .pre .1 .0 in
-    let won = s .pre .1 .1 .0 in
-    let is = c .before .before .before .read-label .ensures in
-    (s .pre .0, (U .ready, (U .tree, ((won .low, won .high), subst (λ (z : State). Cursor (tripIn (s .args .map .now) (s .args .run)) z (c .before .next-candidate .result)) is (c .before .next-candidate .ensures .names)))))
-
-returns : tie.Need-returns
-returns c =
-    let s = c .before .before .before .before .before .before .before .before .before .before .before .before .before in
     let a = s .args in
     let U = s .pre .1 .0 in
     let won = s .pre .1 .1 .0 in
-    let is = c .before .before .before .before .before .before .read-label .ensures in
-    let next = subst (λ (z : State). NextIs (tripIn (a .map .now) (a .run)) (settled (a .words .now) (a .n)) z (Bound.Above (a .candidate)) (c .before .before .before .before .next-candidate .result)) is (c .before .before .before .before .next-candidate .ensures) in
+    let is = c .before .before .before .read-label .ensures in (
+      s .pre .0,
+      (
+        subst (RangeIn (tripIn (a .map .now) (a .run))) (sym is) (U .ready _ (won .low) (won .high) .range),
+        ((U .lists, U .wide), told-spent (U .kept _ (won .low) (won .high)) (won .has) (won .is) is (c .before .read-candidate .ensures)),
+      ),
+    )
+
+advance-requires : tie.Need-advance-requires
+advance-requires c κs =
+    let s = c .before .before .before .before .before .before .before .before .before .before .before .before in
+    let a = s .args in
+    let U = s .pre .1 .0 in
+    let won = s .pre .1 .1 .0 in
+    let next = subst (λ (z : State). NextIs (tripIn (a .map .now) (a .run)) (settled (a .words .now) (a .n)) z (a .candidate) (c .before .candidate-after .result)) (c .before .before .before .before .before .read-label .ensures) (c .before .candidate-after .ensures) in
+    (s .pre .0, (U .ready, (U .tree, ((won .low, won .high), next .fitting))))
+
+returns : tie.Need-returns
+returns c =
+    let s = c .before .before .before .before .before .before .before .before .before .before .before .before .before .before .before in
+    let a = s .args in
+    let U = s .pre .1 .0 in
+    let won = s .pre .1 .1 .0 in
+    let next = subst (λ (z : State). NextIs (tripIn (a .map .now) (a .run)) (settled (a .words .now) (a .n)) z (a .candidate) (c .before .before .before .before .candidate-after .result)) (c .before .before .before .before .before .before .before .before .read-label .ensures) (c .before .before .before .before .candidate-after .ensures) in
     record {
       underway = passed-over _ U (a .w) (a .candidate) won _ _ (s .pre .1 .1 .1) next (c .before .before .advance .ensures);
       higher = root-rises _ (run-sound (a .map .now) (a .run) (s .pre .0)) U (a .w) (a .candidate) won _ _ next (c .before .before .advance .ensures);
@@ -46,7 +51,8 @@ pass-over-spec =
     tie.close
     (tie.spec
     (λ c κs. search needs)
-    next-candidate-requires
+    (λ c κs. search needs)
+    candidate-after-requires
     advance-requires
     (λ c. search needs)
     returns)

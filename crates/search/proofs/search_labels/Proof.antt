@@ -1,51 +1,23 @@
--- One word a junction is enough for any map.
-use mathlib.Core.Path.{_≡_}
 use native.Mathlib.Omega.{arith}
 use borrow.Author.Needs.{needs}
-use Rattle.moves.specs.Runs.{tripIn}
 use Rattle.moves.proofs.Trips.{run-tied}
-use Rattle.moves.proofs.Rising.{run-sound}
-use Rattle.search.specs.Turns.{found}
-use Rattle.search.proofs.Beginning.{begins-home, begins-away}
 use Rattle.search.proofs.search_labels.Statement.{statement}
 use Rattle.search.proofs.search_labels.Tie as tie
 
-begin-requires : tie.Need-begin-requires
-begin-requires c κs =
-    let s = c .before .before .before .before .before .before .before .before .before .before .before .before .before in
-    (s .pre .0, (c .before .before .before .before .before .before .before .clear-lists .ensures (s .args .words .now), (omega (arith, run-sound (s .args .map .now) (s .args .run) (s .pre .0) .few, c .before .before .before .before .before .before .heads2 .given), omega (arith, s .pre .1 .0, s .pre .1 .2))))
-
-returns : tie.Need-returns
-returns c =
-    let s = c .before .before .before .before .before .before .before .before .before .before .before .before .before .before .before .before .before .before .before .before .before in
+search-few-requires : tie.Need-search-few-requires
+search-few-requires c κs =
+    let s = c .before .before .before .before .before in
     let a = s .args in
-    let same : tripIn (a .map .now) (a .run) .order .source ≡ tripIn (a .map .now) (a .run) .order .target = rw (run-tied (a .map .now) (a .run) .order) (c .if1 .taken) in
-    found (begins-home _ same (c .before .before .before .before .before .before .before .begin .ensures) (omega (arith, s .pre .1 .0, s .pre .1 .2, c .before .before .before .before .before .before .words .given))) (s .pre .1 .0)
-
-settle-all-requires : tie.Need-settle-all-requires
-settle-all-requires c κs =
-    let s = c .before .before .before .before .before .before .before .before .before .before .before .before .before .before .before .before .before .before .before .before .before .before .before .before .before in
-    let a = s .args in
-    let apart : (tripIn (a .map .now) (a .run) .order .source ≡ tripIn (a .map .now) (a .run) .order .target → ⊥) = rw (run-tied (a .map .now) (a .run) .order) (c .before .before .before .before .if1 .left) in
-    (s .pre .0, (begins-away _ apart (c .before .before .before .before .before .before .before .before .before .before .before .begin .ensures), (s .pre .1 .0, s .pre .1 .1, omega (arith, s .pre .1 .2, c .before .before .before .before .before .before .before .before .before .before .words .given))))
+    (s .pre .0, (s .pre .1, omega (arith, run-tied (a .map .now) (a .run) .junctions, s .pre .0 .sized .junctions, c .before .if1 .taken)))
 
 pub search-labels-spec : {M : Type 1} → statement M
 search-labels-spec =
     tie.close
     (tie.spec
     (λ c. search needs)
+    search-few-requires
     (λ c. search needs)
     (λ c. search needs)
     (λ c κs. search needs)
-    (λ c. search needs)
-    (λ c. search needs)
-    (λ c. search needs)
-    begin-requires
-    (λ c. search needs)
-    returns
-    (λ c. search needs)
-    (λ c. search needs)
-    (λ c. search needs)
-    settle-all-requires
     (λ c. search needs)
     (λ c. search needs))

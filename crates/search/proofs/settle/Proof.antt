@@ -28,8 +28,9 @@ settle-last-requires c κs =
     let room = s .pre .1 .1 .1 .1 in
     let short : (a .n ≡ a .fit → ⊥) = c .before .before .before .before .before .before .before .if1 .left in
     let more : a .n + 1 ≤ a .fit = omega (arith, short, room .0) in
-    let range = chosen-range _ U (a .w) (a .candidate) won (run-sound (a .map .now) (a .run) (s .pre .0)) in (
-      (U .lists, omega (arith, range .high, U .wide)),
+    let sound = run-sound (a .map .now) (a .run) (s .pre .0) in
+    let range = chosen-range _ U (a .w) (a .candidate) won sound in (
+      (U .lists, omega (arith, range .high, U .wide), omega (arith, range .high, sound .few)),
       (omega (arith, more, room .1), omega (arith, more, room .2), won .high),
     )
 

@@ -4,8 +4,9 @@ use lib.ListN.{length}
 use borrow.Author.Needs.{needs}
 use Rattle.moves.specs.Runs.{tripIn}
 use Rattle.moves.proofs.Rising.{run-sound}
-use Rattle.winners.proofs.Steps.{entering}
-use Rattle.search.proofs.Turning.{onward-as, settles, settled-now, still-chosen, key-same, chosen-range, ready-now}
+use Rattle.winners.proofs.Keys.{fitting-packs}
+use Rattle.winners.proofs.Steps.{entering, ready-added}
+use Rattle.search.proofs.Turning.{onward-as, settles, settled-now, still-chosen, key-same, chosen-range}
 use Rattle.search.proofs.settle_label.Statement.{statement}
 use Rattle.search.proofs.settle_label.Tie as tie
 
@@ -28,9 +29,10 @@ add-label-requires c κs =
     let a = s .args in
     let U = s .pre .1 .0 in
     let won = s .pre .1 .1 .0 in
-    let range = chosen-range _ U (a .w) (a .candidate) won (run-sound (a .map .now) (a .run) (s .pre .0)) in
+    let sound = run-sound (a .map .now) (a .run) (s .pre .0) in
+    let range = chosen-range _ U (a .w) (a .candidate) won sound in
     let here : a .candidate .junction < length (a .heads .now) = omega (arith, range .high, U .wide) in
-    ((U .lists, here), s .pre .1 .1 .1 .1)
+    ((U .lists, here), (s .pre .1 .1 .1 .1, (omega (arith, range .high, sound .few), fitting-packs _ sound _ _ range (c .before .before .before .before .next-candidate .ensures .fitting))))
 
 enter-requires : tie.Need-enter-requires
 enter-requires c κs =
@@ -38,8 +40,16 @@ enter-requires c κs =
     let a = s .args in
     let U = s .pre .1 .0 in
     let won = s .pre .1 .1 .0 in
+    let trip = tripIn (a .map .now) (a .run) in
+    let sound = run-sound (a .map .now) (a .run) (s .pre .0) in
     let added = c .before .before .before .before .before .before .before .before .before .add-label .ensures in
-    (s .pre .0, (ready-now _ U (a .w) (a .candidate) won (run-sound (a .map .now) (a .run) (s .pre .0)) _ _ _ _ _ (s .pre .1 .1 .1 .1 .0) (c .before .before .before .before .before .before .before .before .before .before .before .before .before .before .next-candidate .ensures) added, entering (added .added) (tripIn (a .map .now) (a .run)) (U .tree)))
+    let room = s .pre .1 .1 .1 .1 in (
+      s .pre .0,
+      (
+        ready-added (added .added) trip (U .ready) (c .before .before .before .before .before .before .before .before .words .given) (room .1) (room .0) (chosen-range _ U (a .w) (a .candidate) won sound) ((c .before .before .before .before .before .before .before .before .before .before .before .before .before .before .next-candidate .ensures .fitting)),
+        entering (added .added) trip (U .tree),
+      ),
+    )
 
 add-pass-over : tie.Need-add-pass-over
 add-pass-over c =

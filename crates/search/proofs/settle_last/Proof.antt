@@ -9,7 +9,7 @@ cast-add-label c = let s = c .before .before .before .before .before .before .be
 add-label-requires : tie.Need-add-label-requires
 add-label-requires c κs =
     let s = c .before .before .before .before .before .before .before .before in
-    ((s .pre .0 .0, s .pre .0 .1), (s .pre .1 .0, s .pre .1 .1))
+    ((s .pre .0 .0, s .pre .0 .1), ((s .pre .1 .0, s .pre .1 .1), (s .pre .0 .2, record { cursor = omega arith; junction = omega arith })))
 
 returns : tie.Need-returns
 returns c = c .before .before .before .before .before .before .before .before .add-label .ensures

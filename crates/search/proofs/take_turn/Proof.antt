@@ -1,11 +1,12 @@
-use mathlib.Core.Path.{_≡_, _∙_, sym, subst}
+use mathlib.Core.Path.{_≡_, subst}
 use Prim.Native.Nat.{_≤_}
 use native.Mathlib.Omega.{arith}
 use borrow.Author.Needs.{needs}
 use Rattle.moves.specs.Runs.{tripIn}
 use Rattle.moves.proofs.Rising.{run-sound}
-use Rattle.labels.specs.LabelWords.{cursorOf}
+use Rattle.labels.specs.LabelWords.{ownOf}
 use Rattle.winners.specs.Mending.{LeastKey}
+use Rattle.winners.proofs.Contenders.{own-live, own-none}
 use Rattle.search.specs.Turns.{exhausted}
 use Rattle.search.proofs.Offering.{leader-none, leader-shut, root-least, says-below}
 use Rattle.search.proofs.take_turn.Statement.{statement}
@@ -20,8 +21,8 @@ returns c =
     let lead = c .before .leading .ensures (tripIn (a .map .now) (a .run)) (U .tree) in
     exhausted (leader-none _ (run-sound (a .map .now) (a .run) (s .pre .0)) U (subst (LeastKey (tripIn (a .map .now) (a .run)) (a .words .now) (a .n)) none lead))
 
-cursor-requires : tie.Need-cursor-requires
-cursor-requires c κs =
+own-clock-requires : tie.Need-own-clock-requires
+own-clock-requires c κs =
     let s = c .before .before .before .before .before .before .before .before .before in
     let a = s .args in
     let U = s .pre .1 .0 in
@@ -35,19 +36,24 @@ returns-2 c =
     let s = c .before .before .before .before .before .before .before .before .before .before .before in
     let a = s .args in
     let U = s .pre .1 .0 in
+    let sound = run-sound (a .map .now) (a .run) (s .pre .0) in
+    let some : (c .before .before .before .before .leading .result ≡ 0 → ⊥) = c .before .before .before .if1 .left in
+    let low : 1 ≤ c .before .before .before .before .leading .result = omega (arith, some) in
     let lead = c .before .before .before .before .leading .ensures (tripIn (a .map .now) (a .run)) (U .tree) in
-    exhausted (leader-shut _ (run-sound (a .map .now) (a .run) (s .pre .0)) U _ lead (sym (c .before .cursor .ensures) ∙ c .if2 .taken))
+    exhausted (leader-shut _ sound U _ lead (own-none _ sound _ _ low (U .ready _ low (lead .within)) (omega (arith, c .before .own-clock .ensures, c .if2 .taken))))
 
 offer-requires : tie.Need-offer-requires
 offer-requires c κs =
     let s = c .before .before .before .before .before .before .before .before .before .before .before .before .before .before .before in
     let a = s .args in
     let U = s .pre .1 .0 in
+    let sound = run-sound (a .map .now) (a .run) (s .pre .0) in
     let some : (c .before .before .before .before .before .before .before .before .leading .result ≡ 0 → ⊥) = c .before .before .before .before .before .before .before .if1 .left in
+    let low : 1 ≤ c .before .before .before .before .before .before .before .before .leading .result = omega (arith, some) in
     let lead = c .before .before .before .before .before .before .before .before .leading .ensures (tripIn (a .map .now) (a .run)) (U .tree) in
-    let live : (c .before .before .before .before .before .cursor .result ≡ 0 → ⊥) = c .before .before .before .before .if2 .left in
-    let is : c .before .before .before .before .before .cursor .result ≡ cursorOf (a .words .now) (c .before .before .before .before .before .before .before .before .leading .result) = c .before .before .before .before .before .cursor .ensures in
-    (s .pre .0, (U, ((omega (arith, some), lead, omega (arith, live, is)), s .pre .1 .1)))
+    let live : (c .before .before .before .before .before .own-clock .result ≡ 4294967295 → ⊥) = c .before .before .before .before .if2 .left in
+    let is : c .before .before .before .before .before .own-clock .result ≡ ownOf (a .words .now) (c .before .before .before .before .before .before .before .before .leading .result) = c .before .before .before .before .before .own-clock .ensures in
+    (s .pre .0, (U, ((lead, own-live _ sound _ _ low (U .ready _ low (lead .within)) (omega (arith, live, is))), s .pre .1 .1)))
 
 returns-3 : tie.Need-returns-3
 returns-3 c =
@@ -65,7 +71,7 @@ take-turn-spec =
     (λ c κs. search needs)
     (λ c. search needs)
     returns
-    cursor-requires
+    own-clock-requires
     (λ c. search needs)
     returns-2
     offer-requires

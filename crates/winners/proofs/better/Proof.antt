@@ -1,62 +1,25 @@
-use mathlib.Core.Path.{_∙_, sym}
-use native.Mathlib.Omega.{arith}
 use borrow.Author.Needs.{needs}
-use borrow.Author.Tests.{not-true, not-false}
-use Rattle.winners.proofs.Contenders.{second-shut, first-shut, first-ranks, first-fails, second-ranks, second-fails}
+use Rattle.moves.specs.Runs.{tripIn}
+use Rattle.moves.proofs.Rising.{run-sound}
+use Rattle.winners.proofs.Contenders.{best-earlier}
 use Rattle.winners.proofs.better.Statement.{statement}
 use Rattle.winners.proofs.better.Tie as tie
 
-returns : tie.Need-returns
-returns c = let s = c .before .before in second-shut (s .args .a) (s .args .b) (s .pre .0) (s .pre .1) (not-true _ (c .if1 .taken))
+tied-requires : tie.Need-tied-requires
+tied-requires c κs =
+    let s = c .before .before .before .before .before in
+    (s .pre .0, (s .pre .1 .0, s .pre .1 .1, c .if1 .taken))
 
 returns-2 : tie.Need-returns-2
-returns-2 c = let s = c .before .before .before .before in first-shut (s .args .a) (s .args .b) (s .pre .0) (s .pre .1) (not-true _ (c .if2 .taken))
-
-returns-3 : tie.Need-returns-3
-returns-3 c =
-    let live = c .before .before .before .before .before in
-    let first = live .before .before in
-    let s = first .before .before in
-    let a = s .args .a in
-    let b = s .args .b in
-    first-ranks a b (s .pre .0) (s .pre .1) (not-false _ (live .if2 .left)) (not-false _ (first .if1 .left)) (omega (arith, c .before .before .if3 .taken)) (sym (c .before .ranks-no-higher .ensures) ∙ c .if4 .taken)
-
-returns-4 : tie.Need-returns-4
-returns-4 c =
-    let live = c .before .before .before .before .before in
-    let first = live .before .before in
-    let s = first .before .before in
-    let a = s .args .a in
-    let b = s .args .b in
-    first-fails a b (s .pre .0) (s .pre .1) (not-false _ (live .if2 .left)) (not-false _ (first .if1 .left)) (sym (c .before .ranks-no-higher .ensures) ∙ c .if4 .left)
-
-returns-5 : tie.Need-returns-5
-returns-5 c =
-    let live = c .before .before .before .before .before in
-    let first = live .before .before in
-    let s = first .before .before in
-    let a = s .args .a in
-    let b = s .args .b in
-    second-ranks a b (s .pre .0) (s .pre .1) (not-false _ (live .if2 .left)) (not-false _ (first .if1 .left)) (omega (arith, c .before .before .if3 .left)) (sym (c .before .ranks-no-higher2 .ensures) ∙ c .if5 .taken)
-
-returns-6 : tie.Need-returns-6
-returns-6 c =
-    let live = c .before .before .before .before .before in
-    let first = live .before .before in
-    let s = first .before .before in
-    let a = s .args .a in
-    let b = s .args .b in
-    second-fails a b (s .pre .0) (s .pre .1) (not-false _ (live .if2 .left)) (not-false _ (first .if1 .left)) (sym (c .before .ranks-no-higher2 .ensures) ∙ c .if5 .left)
+returns-2 c =
+    let s = c .before .before .before .before .before .before in
+    best-earlier (tripIn (s .args .map .now) (s .args .run)) (run-sound (s .args .map .now) (s .args .run) (s .pre .0)) (s .args .words .now) (s .pre .1 .0) (s .pre .1 .1) (c .before .if1 .left) (c .earlier .ensures)
 
 pub better-spec : {M : Type 1} → statement M
 better-spec =
     tie.close
     (tie.spec
-    returns
-    returns-2
+    tied-requires
+    (λ c. search needs)
     (λ c κs. search needs)
-    returns-3
-    returns-4
-    (λ c κs. search needs)
-    returns-5
-    returns-6)
+    returns-2)

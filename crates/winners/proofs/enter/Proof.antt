@@ -5,6 +5,7 @@ use native.Mathlib.Nat.{le-refl}
 use borrow.Author.Tests.{not-true, not-false}
 use Rattle.moves.specs.Runs.{tripIn}
 use Rattle.winners.specs.Mending.{Placed}
+use Rattle.winners.proofs.Contenders.{named}
 use Rattle.winners.proofs.Steps.{only-refl, Entered, entered-more, entered-done, entered-end}
 use Rattle.winners.proofs.enter.Statement.{statement}
 use Rattle.winners.proofs.enter.Tie as tie
@@ -15,11 +16,11 @@ Inv-loop map run words₀ n new j₀ words j = Entered (tripIn map run) words₀
 abbrev μ-loop : tie.MeasureT-loop
 μ-loop map run words₀ n new j₀ words j = j
 
-add-candidate-of : tie.Need-add-candidate-of Inv-loop μ-loop
-add-candidate-of c = let s = c .before .before .before in omega (arith, s .pre .1 .0 _ (omega arith) (le-refl _) .small)
+add-contender-of : tie.Need-add-contender-of Inv-loop μ-loop
+add-contender-of c = let s = c .before .before .before in omega (arith, s .pre .1 .0 _ (omega arith) (le-refl _) .small)
 
-candidate-of-requires : tie.Need-candidate-of-requires Inv-loop μ-loop
-candidate-of-requires c κs = let s = c .before .before .before in (s .pre .0, λ p. s .pre .1 .0 _ p (le-refl _))
+contender-of-requires : tie.Need-contender-of-requires Inv-loop μ-loop
+contender-of-requires c κs = let s = c .before .before .before in λ p. s .pre .1 .0 _ p (le-refl _) .room
 
 add-j : tie.Need-add-j Inv-loop μ-loop
 add-j c = let s = c .before .before .before .before in omega (arith, s .pre .1 .0 _ (omega arith) (le-refl _) .small)
@@ -27,7 +28,7 @@ add-j c = let s = c .before .before .before .before in omega (arith, s .pre .1 .
 loop-holds : tie.Need-loop-holds Inv-loop μ-loop
 loop-holds c =
     let s = c .before .before .before .before in
-    record { enters = record { ready = s .pre .1 .0; entering = s .pre .1 .1; named = c .candidate-of .ensures }; only = only-refl (s .args .words .now); long = refl }
+    record { enters = record { ready = s .pre .1 .0; entering = s .pre .1 .1; named = named (λ p. s .pre .1 .0 _ p (le-refl _)) (s .pre .1 .0 _ (omega arith) (le-refl _) .small) (c .contender-of .ensures) }; only = only-refl (s .args .words .now); long = refl }
 
 place-requires : tie.Need-place-requires Inv-loop μ-loop
 place-requires c κs = (c .before .before .before .before .before .before .before .pre .0, (c .before .before .loop .inv .enters, c .before .loop-test .taken))
@@ -56,8 +57,8 @@ enter-spec =
     (tie.spec
     Inv-loop
     μ-loop
-    add-candidate-of
-    candidate-of-requires
+    add-contender-of
+    contender-of-requires
     add-j
     loop-holds
     place-requires

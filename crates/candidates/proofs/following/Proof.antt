@@ -1,0 +1,56 @@
+use mathlib.Core.Path.{_∙_, sym}
+use native.Mathlib.Omega.{arith}
+use borrow.Author.Needs.{needs}
+use Rattle.moves.proofs.Trips.{run-tied}
+use Rattle.candidates.proofs.Roads.{next-road, no-next-road, pause-next, pause-last}
+use Rattle.candidates.proofs.following.Statement.{statement}
+use Rattle.candidates.proofs.following.Tie as tie
+
+returns : tie.Need-returns
+returns c =
+    let asked = c .before in
+    let s = asked .before .before .before .before .before in
+    rw (asked .next-road .ensures)
+    (next-road (run-tied (s .args .map .now) (s .args .run)) (s .pre .0 .mapped) (s .pre .1 .1) (omega (arith, asked .before .if1 .taken, s .pre .0 .sized .roads)) (rw (asked .next-road .ensures) at (c .if2 .taken)))
+
+returns-2 : tie.Need-returns-2
+returns-2 c =
+    let asked = c .before .before in
+    let s = asked .before .before .before .before .before in
+    no-next-road (run-tied (s .args .map .now) (s .args .run)) (s .pre .0 .mapped) (s .pre .1 .1) (omega (arith, asked .before .if1 .taken, s .pre .0 .sized .roads)) (rw (asked .next-road .ensures) at (c .before .if2 .left)) (c .first-pause .ensures)
+
+add-if3 : tie.Need-add-if3
+add-if3 c =
+    let s = c .before .before .before .before .before in
+    omega (arith, s .pre .1 .1 .high, run-tied (s .args .map .now) (s .args .run) .roads, s .pre .0 .sized .roads)
+
+returns-3 : tie.Need-returns-3
+returns-3 c =
+    let s = c .before .before .before .before .before .before in
+    let roads = s .pre .0 .sized .roads ∙ sym (run-tied (s .args .map .now) (s .args .run) .roads) in
+    pause-last (s .pre .1 .1) (omega (arith, c .before .before .if1 .left)) (omega (arith, c .if3 .taken))
+
+add-result : tie.Need-add-result
+add-result c =
+    let s = c .before .before .before .before .before .before in
+    omega (arith, s .pre .1 .1 .high, run-tied (s .args .map .now) (s .args .run) .roads, s .pre .0 .sized)
+
+returns-4 : tie.Need-returns-4
+returns-4 c =
+    let s = c .before .before .before .before .before .before in
+    let roads = s .pre .0 .sized .roads ∙ sym (run-tied (s .args .map .now) (s .args .run) .roads) in
+    pause-next (s .pre .1 .1) (omega (arith, c .before .before .if1 .left)) (omega (arith, c .before .before .if1 .left, c .if3 .left, s .pre .1 .1 .high))
+
+pub following-spec : {M : Type 1} → statement M
+following-spec =
+    tie.close
+    (tie.spec
+    (λ c κs. search needs)
+    returns
+    (λ c κs. search needs)
+    returns-2
+    (λ c. search needs)
+    add-if3
+    returns-3
+    add-result
+    returns-4)

@@ -1,0 +1,135 @@
+-- The best stays but where the cursor names a legal move to a state above the bound that no label covers.
+use mathlib.Core.Path.{_∙_, refl, sym, subst}
+use native.Mathlib.Omega.{arith}
+use borrow.Author.Needs.{needs}
+use borrow.Author.Tests.{not-true, not-false}
+use Rattle.booleans.proofs.Tests.{not-both}
+use Rattle.labels.specs.Lists.{Says}
+use Rattle.moves.specs.Runs.{tripIn}
+use Rattle.moves.proofs.Trips.{run-tied}
+use Rattle.moves.proofs.Rising.{run-sound, range-after}
+use Rattle.candidates.specs.Candidates.{moveAt, Names}
+use Rattle.candidates.proofs.Results.{allowed-offers}
+use Rattle.candidates.proofs.Trials.{is-lower, some-best, later-higher, kept-unnamed, kept-low, kept-high, kept-covered, tried-joined, none-covers}
+use Rattle.candidates.proofs.weigh.Statement.{statement}
+use Rattle.candidates.proofs.weigh.Tie as tie
+
+allowed-requires : tie.Need-allowed-requires
+allowed-requires c κs =
+    let s = c .before .before .before .before .before in
+    omega (arith, s .pre .1 .1 .1 .0 .high, run-tied (s .args .map .now) (s .args .run) .roads, s .pre .0 .sized .roads)
+
+returns : tie.Need-returns
+returns c =
+    let asked = c .before in
+    let s = asked .before .before .before .before .before .before in
+    let a = s .args in
+    kept-unnamed (s .pre .1 .1 .1 .1)
+    (λ named. not-both (allowed-offers (run-tied (a .map .now) (a .run)) (s .pre .0 .sized .roads) (s .pre .1 .1 .1 .0) ∙ named .offered) (sym (asked .allowed .ensures) ∙ not-true _ (c .if1 .taken)))
+
+result-at-requires : tie.Need-result-at-requires
+result-at-requires c κs =
+    let s = c .before .before .before .before .before .before .before in
+    (s .pre .0, (s .pre .1 .0, (s .pre .1 .1 .1 .0 .low, s .pre .1 .1 .1 .0 .high)))
+
+-- from where the move's result is known to where the function starts
+abbrev start : tie.After-result-at → tie.Start
+start c = c .before .before .before .before .before .before .before .before
+
+returns-2 : tie.Need-returns-2
+returns-2 c =
+    let led = c .before .before in
+    let s = start led in
+    let a = s .args in
+    kept-unnamed (s .pre .1 .1 .1 .1)
+    (λ named. not-both (named .lawful) (rw (← led .result-at .ensures, run-tied (a .map .now) (a .run) .order) (sym (c .before .is-legal .ensures) ∙ not-true _ (c .if2 .taken))))
+
+-- the cursor names a legal move
+named : (c : tie.Else2) →
+    let s = start (c .before .before) in
+    Names (tripIn (s .args .map .now) (s .args .run)) (s .args .state) (s .args .cursor)
+named c =
+    let led = c .before .before in
+    let asked = led .before .before in
+    let s = start led in
+    let a = s .args in
+    let tied = run-tied (a .map .now) (a .run) in
+    let worth = s .pre .1 .1 .1 .0 in
+    record {
+      low = worth .low;
+      high = worth .high;
+      offered = sym (allowed-offers tied (s .pre .0 .sized .roads) worth) ∙ sym (asked .allowed .ensures) ∙ not-false _ (led .before .if1 .left);
+      lawful = rw (← led .result-at .ensures, tied .order) (sym (c .before .is-legal .ensures) ∙ not-false _ (c .if2 .left));
+    }
+
+returns-3 : tie.Need-returns-3
+returns-3 c =
+    let led = c .before .before .before .before in
+    let s = start led in
+    kept-low (s .pre .1 .1 .1 .1) (rw (← led .result-at .ensures, ← c .before .ranks-no-higher .ensures) (c .if3 .taken))
+
+returns-4 : tie.Need-returns-4
+returns-4 c =
+    let legal = c .before .before .before .before .before .before in
+    let led = legal .before .before in
+    let s = start led in
+    let a = s .args in
+    let sound = run-sound (a .map .now) (a .run) (s .pre .0) in
+    let tried = s .pre .1 .1 .1 .1 in
+    let late = rw (led .result-at .ensures) at (c .if5 .taken) in
+    kept-high tried (c .before .before .before .if4 .taken)
+    (some-best sound (tried .found .held) (named legal) (omega arith))
+    (later-higher sound (tried .found .held) (named legal) late)
+
+covered-requires : tie.Need-covered-requires
+covered-requires c κs =
+    let legal = c .before .before .before in
+    let led = legal .before .before in
+    let s = start led in
+    let a = s .args in
+    let one = named legal in
+    let trip = tripIn (a .map .now) (a .run) in
+    ((s .pre .1 .1 .0 .0, rw (led .result-at .ensures) (omega (arith, s .pre .1 .1 .0 .1, range-after trip (run-sound (a .map .now) (a .run) (s .pre .0)) (a .state) (moveAt trip (a .state) (a .cursor)) (one .offered) (s .pre .1 .0) (one .lawful) .high))), (omega arith, none-covers (a .words .now) _))
+
+returns-5 : tie.Need-returns-5
+returns-5 c =
+    let led = c .before .before .before .before .before .before .before in
+    let s = start led in
+    kept-covered (s .pre .1 .1 .1 .1) (rw (← led .result-at .ensures) (subst (Says _) (c .if6 .taken) (c .before .covered .ensures)))
+
+joined-requires : tie.Need-joined-requires
+joined-requires c κs =
+    let legal = c .before .before .before .before .before in
+    let led = legal .before .before in
+    let s = start led in
+    let found = s .pre .1 .1 .1 .1 .found in
+    ((s .pre .0, refl), (s .pre .1 .0, ((found .held, named legal), led .result-at .ensures)))
+
+returns-6 : tie.Need-returns-6
+returns-6 c =
+    let asked = c .before .before in
+    let ranked = asked .before .before .before in
+    let legal = ranked .before in
+    let led = legal .before .before in
+    let s = start led in
+    tried-joined (s .pre .1 .1 .1 .1) (named legal)
+    (rw (← led .result-at .ensures) (is-lower _ _ (sym (ranked .ranks-no-higher .ensures) ∙ asked .before .before .if3 .left)))
+    (rw (← led .result-at .ensures) (subst (Says _) (c .before .if6 .left) (asked .covered .ensures)))
+    (c .joined .ensures)
+
+pub weigh-spec : {M : Type 1} → statement M
+weigh-spec =
+    tie.close
+    (tie.spec
+    allowed-requires
+    returns
+    result-at-requires
+    (λ c κs. search needs)
+    returns-2
+    (λ c κs. search needs)
+    returns-3
+    returns-4
+    covered-requires
+    returns-5
+    joined-requires
+    returns-6)
