@@ -6,6 +6,7 @@ pub mod machine;
 pub mod map_bytes;
 pub mod maps;
 pub mod ordinary;
+pub mod planning;
 pub mod strong;
 pub mod table;
 pub mod timing;

@@ -3,9 +3,20 @@
 use other::make::practice::{draw, practice_map, USUAL_START};
 use other::map::{Junction, Map, Road};
 
+use crate::map_bytes::{junction_count, roads};
+
 pub struct NamedMap {
     pub name: String,
     pub bytes: Vec<u8>,
+}
+
+impl NamedMap {
+    /// The most roads that leave a junction: what a planner looks at when it goes on from a label.
+    pub fn degree(&self) -> usize {
+        let mut leaving = vec![0; junction_count(&self.bytes) + 1];
+        roads(&self.bytes).for_each(|road| leaving[road.from as usize] += 1);
+        leaving.into_iter().max().unwrap_or_default()
+    }
 }
 
 /// The practice map of document 02 (P14) and its usual start.
@@ -16,37 +27,128 @@ pub fn practice(junctions: u64) -> NamedMap {
     }
 }
 
-/// Junctions in rows and columns that close round, each with a road to its four neighbours, 1 to
-/// 20,000 metres at 80 km per hour. Every fourth junction of a row or column is a car park.
+/// A grid whose roads have 1 to 20,000 metres.
 pub fn grid(side: u64) -> NamedMap {
     let mut state = USUAL_START;
-    let mut map = Map {
-        junctions: Vec::new(),
-        roads: Vec::new(),
-        names: b"G".to_vec(),
-    };
+    let name = format!("grid {side} × {side}");
+    closed_grid(name, side, || 1 + draw(&mut state) % 20_000)
+}
+
+/// A grid whose roads all take 450 seconds, so that many labels have the same clock and only the
+/// other figures rank them.
+pub fn uniform_grid(side: u64) -> NamedMap {
+    closed_grid(format!("uniform grid {side} × {side}"), side, || 10_000)
+}
+
+/// Junctions in rows and columns that close round, each with a road to its four neighbours. Every
+/// fourth junction of a row or column is a car park.
+fn closed_grid(name: String, side: u64, mut metres: impl FnMut() -> u64) -> NamedMap {
+    let mut sketch = Sketch::default();
     for row in 0..side {
         for column in 0..side {
-            map.junctions.push(Junction {
-                first: 0,
-                car_park: u64::from((row + column) % 4 == 0),
-                name_start: 0,
-                name_length: 1,
-            });
+            let from = sketch.junction((row + column) % 4 == 0);
             for (down, right) in [(0, 1), (1, 0), (0, side - 1), (side - 1, 0)] {
-                map.roads.push(Road {
-                    from: 1 + row * side + column,
-                    to: 1 + (row + down) % side * side + (column + right) % side,
-                    metres: 1 + draw(&mut state) % 20_000,
-                    speed: 80,
-                    next: 0,
-                });
+                let to = 1 + (row + down) % side * side + (column + right) % side;
+                sketch.road(from, to, metres());
             }
         }
     }
-    map.link_chains();
-    NamedMap {
-        name: format!("grid {side} × {side}"),
-        bytes: map.bytes(),
+    sketch.named(name)
+}
+
+/// A spine with a tooth at each junction, which ends in a car park and is longer than the tooth
+/// before. The lists of labels grow along the spine: a pause at a later tooth costs more time and
+/// leaves a lower spell or shift, so that no choice of the last break's tooth and of the last rest's
+/// dominates another while the limits allow both. The shorter the spine's roads, the more teeth are
+/// within the limits, and the longer the lists.
+pub fn comb(teeth: u64, apart: u64, step: u64) -> NamedMap {
+    let mut sketch = Sketch::default();
+    for number in 1..=teeth {
+        let spine = sketch.junction(false);
+        let tooth = sketch.junction(true);
+        sketch.road(spine, tooth, step * number);
+        sketch.road(tooth, spine, step * number);
+        if number < teeth {
+            sketch.road(spine, tooth + 1, apart);
+        }
+    }
+    sketch.named(format!("comb {teeth}"))
+}
+
+/// Some hundred and fifty labels at a junction.
+pub fn usual_comb(teeth: u64) -> NamedMap {
+    comb(teeth, 20_000, 20)
+}
+
+/// As many labels at a junction as there are teeth, and more.
+pub fn dense_comb(teeth: u64) -> NamedMap {
+    comb(teeth, 6_000, 100)
+}
+
+/// A ring of hubs with so many leaves each, every fourth a car park. A road of 1 to 100,000 metres
+/// leads to each leaf and back, and another on to the next hub, so that a trip passes every hub
+/// between its ends and the hubs have several labels.
+pub fn hubs(degree: u64, leaves: u64) -> NamedMap {
+    let mut state = USUAL_START;
+    let mut metres = || 1 + draw(&mut state) % 100_000;
+    let mut sketch = Sketch::default();
+    let hubs = leaves / degree;
+    for _ in 0..hubs {
+        sketch.junction(false);
+    }
+    for hub in 1..=hubs {
+        for number in 0..degree {
+            let leaf = sketch.junction(number % 4 == 0);
+            let out = metres();
+            sketch.road(hub, leaf, out);
+            sketch.road(leaf, hub, out);
+            sketch.road(leaf, hub % hubs + 1, metres());
+        }
+    }
+    sketch.named(format!("hubs of degree {degree}"))
+}
+
+/// A map that is put together junction by junction and road by road.
+struct Sketch(Map);
+
+impl Default for Sketch {
+    fn default() -> Sketch {
+        Sketch(Map {
+            junctions: Vec::new(),
+            roads: Vec::new(),
+            names: b"G".to_vec(),
+        })
+    }
+}
+
+impl Sketch {
+    /// Adds a junction and gives its number.
+    fn junction(&mut self, is_car_park: bool) -> u64 {
+        self.0.junctions.push(Junction {
+            first: 0,
+            car_park: u64::from(is_car_park),
+            name_start: 0,
+            name_length: 1,
+        });
+        self.0.junctions.len() as u64
+    }
+
+    /// Adds a road at 80 km per hour; its ends may be added later.
+    fn road(&mut self, from: u64, to: u64, metres: u64) {
+        self.0.roads.push(Road {
+            from,
+            to,
+            metres,
+            speed: 80,
+            next: 0,
+        });
+    }
+
+    fn named(mut self, name: String) -> NamedMap {
+        self.0.link_chains();
+        NamedMap {
+            name,
+            bytes: self.0.bytes(),
+        }
     }
 }

@@ -17,8 +17,9 @@ use other::sheet::{sheet_bytes, Sheet};
 use crate::answer::Answer;
 use crate::journeys::wander;
 use crate::map_bytes;
-use crate::maps::{grid, practice, NamedMap};
+use crate::maps::{dense_comb, grid, hubs, practice, uniform_grid, usual_comb, NamedMap};
 use crate::ordinary::{self, Ordinary};
+use crate::planning::Planners;
 use crate::strong::heap::Heap;
 use crate::strong::{self, Strong};
 use crate::trip::Trip;
@@ -155,6 +156,55 @@ fn maps_pass_the_check() {
     passes(practice(MOST_JUNCTIONS));
     passes(grid(5));
     passes(grid(96));
+    passes(uniform_grid(96));
+    passes(dense_comb(350));
+    passes(usual_comb(1_600));
+    for degree in [50, 200, 1_000] {
+        passes(hubs(degree, 5_000));
+    }
+}
+
+#[test]
+fn degrees_are_those_of_the_maps() {
+    for (map, degree) in [
+        (practice(1_024), 2),
+        (grid(8), 4),
+        (uniform_grid(8), 4),
+        (usual_comb(8), 2),
+        (hubs(50, 200), 50),
+    ] {
+        assert_eq!(map.degree(), degree, "{}", map.name);
+    }
+}
+
+#[test]
+fn a_uniform_grid_has_one_road_time() {
+    let map = uniform_grid(8);
+    assert!(map_bytes::roads(&map.bytes).all(|road| road.time == 450));
+}
+
+#[test]
+fn lists_of_labels_grow_along_a_comb() {
+    let labels_a_junction = |teeth| {
+        let map = dense_comb(teeth);
+        let trips = Targets::of(&map.bytes).with_labels(&[]);
+        let [answer, _] = Both::default().answers(&map.bytes, &trips[0].order);
+        answer.labels() / (2 * teeth)
+    };
+    let [short, long] = [40, 160].map(labels_a_junction);
+    assert!(short > 2 && long > 20 * short, "{short}, then {long}");
+}
+
+#[test]
+fn all_agree_on_combs_and_hubs() {
+    let mut planners = Planners::default();
+    for map in [dense_comb(60), hubs(12, 120), uniform_grid(16)] {
+        for trip in Targets::of(&map.bytes).near_middle_far() {
+            for trip in [trip.with_split(), trip] {
+                assert!(planners.labels(&map, &trip).expect("one plan") > 0);
+            }
+        }
+    }
 }
 
 #[test]

@@ -7,15 +7,28 @@ use std::time::{Duration, Instant};
 /// does meanwhile then falls on all of them alike.
 pub fn best_of<const COUNT: usize>(
     runs: usize,
+    tasks: [&mut dyn FnMut(); COUNT],
+) -> [Duration; COUNT] {
+    best_of_longer(runs, Duration::ZERO, tasks)
+}
+
+/// The same, and goes on until this time has passed: the shortest of a few runs of some microseconds
+/// says little.
+pub fn best_of_longer<const COUNT: usize>(
+    least_runs: usize,
+    least_time: Duration,
     mut tasks: [&mut dyn FnMut(); COUNT],
 ) -> [Duration; COUNT] {
     let mut best = [Duration::MAX; COUNT];
-    for _ in 0..runs {
+    let mut runs = 0;
+    let first = Instant::now();
+    while runs < least_runs || first.elapsed() < least_time {
         for (task, best) in tasks.iter_mut().zip(&mut best) {
             let begun = Instant::now();
             task();
             *best = begun.elapsed().min(*best);
         }
+        runs += 1;
     }
     best
 }

@@ -2,18 +2,20 @@
 
 use std::time::Duration;
 
-use bench::answer::Answer;
-use bench::maps::NamedMap;
-use bench::ordinary::{self, Ordinary};
-use bench::strong::{self, Strong};
-use bench::trip::Trip;
-use bench::trips::NamedTrip;
+use differential::LIBRARY;
 use other::planning::{MOST_LABELS, WORDS_OF_A_LABEL};
 use other::sheet::sheet_bytes;
 
-use bench::table::{brief, grouped, ratio_text, Table};
-use bench::timing::{best_of, nanoseconds_each, ratio, take};
-use differential::LIBRARY;
+use crate::answer::Answer;
+use crate::maps::NamedMap;
+use crate::ordinary::{self, Ordinary};
+use crate::strong::{self, Strong};
+use crate::timing::{best_of_longer, take};
+use crate::trip::Trip;
+use crate::trips::NamedTrip;
+
+/// For all runs of one trip.
+pub const LEAST_TIME: Duration = Duration::from_secs(1);
 
 const LONGEST_PLAN: usize = 100_000;
 
@@ -38,27 +40,29 @@ impl Prepared<'_> {
     }
 }
 
-struct Times {
-    library: Duration,
-    ordinary: Duration,
-    strong: Duration,
+pub struct Times {
+    pub library: Duration,
+    pub ordinary: Duration,
+    pub strong: Duration,
     map_check: Duration,
-    conversion: Duration,
-    compact_conversion: Duration,
+    pub conversion: Duration,
+    pub compact_conversion: Duration,
 }
 
 impl Times {
-    fn library_less_check(&self) -> Duration {
+    pub fn library_less_check(&self) -> Duration {
         self.library.saturating_sub(self.map_check)
     }
 }
 
 /// A trip and its times.
 pub struct Timed {
-    map: String,
-    trip: String,
-    labels: u64,
-    times: Times,
+    pub map: String,
+    /// The map's.
+    pub degree: usize,
+    pub trip: String,
+    pub labels: u64,
+    pub times: Times,
 }
 
 /// The space that the library is lent and the planners' storage. They are used again for each trip,
@@ -70,8 +74,8 @@ pub struct Planners {
     strong: Strong,
 }
 
-impl Planners {
-    pub fn new() -> Planners {
+impl Default for Planners {
+    fn default() -> Planners {
         Planners {
             words: vec![0; WORDS_OF_A_LABEL * MOST_LABELS],
             sheet: vec![0; sheet_bytes(LONGEST_PLAN)],
@@ -79,25 +83,35 @@ impl Planners {
             strong: Strong::default(),
         }
     }
+}
+
+impl Planners {
+    /// What the library answers.
+    pub fn library_answer(&mut self, map: &[u8], order: &[u8]) -> Result<Answer, String> {
+        let reply = (LIBRARY.plan)(map, order, &mut self.words, &mut self.sheet);
+        Answer::told(&reply, &self.sheet)
+    }
 
     /// Times a trip, unless the three plans differ.
     pub fn time(&mut self, runs: usize, map: &NamedMap, trip: &NamedTrip) -> Result<Timed, String> {
-        let prepared = Prepared::new(map, trip);
-        let labels = self
-            .agreed_labels(&prepared)
-            .map_err(|why| format!("{}, {}: {why}", map.name, trip.name))?;
         Ok(Timed {
             map: map.name.clone(),
+            degree: map.degree(),
             trip: trip.name.clone(),
-            labels,
-            times: self.best_times(runs, &prepared),
+            labels: self.labels(map, trip)?,
+            times: self.best_times(runs, &Prepared::new(map, trip)),
         })
+    }
+
+    /// N, unless the three plans differ.
+    pub fn labels(&mut self, map: &NamedMap, trip: &NamedTrip) -> Result<u64, String> {
+        self.agreed_labels(&Prepared::new(map, trip))
+            .map_err(|why| format!("{}, {}: {why}", map.name, trip.name))
     }
 
     /// N, where all three plan alike: the same moves, figures and N.
     fn agreed_labels(&mut self, on: &Prepared) -> Result<u64, String> {
-        let reply = (LIBRARY.plan)(on.map, &on.order, &mut self.words, &mut self.sheet);
-        let library = Answer::told(&reply, &self.sheet)?;
+        let library = self.library_answer(on.map, &on.order)?;
         let ordinary = self.ordinary.plan(&on.graph, &on.trip);
         let strong = self.strong.plan(&on.compact_graph, &on.trip);
         if library != ordinary || library != strong {
@@ -117,8 +131,9 @@ impl Planners {
             ordinary,
             strong,
         } = self;
-        let best = best_of(
+        let best = best_of_longer(
             runs,
+            LEAST_TIME,
             [
                 &mut || take((LIBRARY.plan)(on.map, &on.order, words, sheet)),
                 &mut || take(ordinary.plan(&on.graph, &on.trip)),
@@ -138,64 +153,4 @@ impl Planners {
             compact_conversion,
         }
     }
-}
-
-/// Milliseconds, and nanoseconds per label.
-pub fn print_times(all: &[Timed]) {
-    let mut table = Table::new(
-        &["map", "trip"],
-        &[
-            "N",
-            "library, ms",
-            "library, ns",
-            "less map check",
-            "(a)",
-            "(a) and conversion",
-            "(b)",
-            "(b) and conversion",
-        ],
-    );
-    for timed in all {
-        let times = &timed.times;
-        let each = |time| brief(nanoseconds_each(time, timed.labels));
-        table.add(&[
-            timed.map.clone(),
-            timed.trip.clone(),
-            grouped(timed.labels),
-            brief(1_000.0 * times.library.as_secs_f64()),
-            each(times.library),
-            each(times.library_less_check()),
-            each(times.ordinary),
-            each(times.ordinary + times.conversion),
-            each(times.strong),
-            each(times.strong + times.compact_conversion),
-        ]);
-    }
-    table.print();
-}
-
-pub fn print_ratios(all: &[Timed]) {
-    let mut table = Table::new(
-        &["map", "trip"],
-        &[
-            "N",
-            "library / (a)",
-            "less map check / (a)",
-            "library / (b)",
-            "less map check / (b)",
-        ],
-    );
-    for timed in all {
-        let times = &timed.times;
-        table.add(&[
-            timed.map.clone(),
-            timed.trip.clone(),
-            grouped(timed.labels),
-            ratio_text(ratio(times.library, times.ordinary)),
-            ratio_text(ratio(times.library_less_check(), times.ordinary)),
-            ratio_text(ratio(times.library, times.strong)),
-            ratio_text(ratio(times.library_less_check(), times.strong)),
-        ]);
-    }
-    table.print();
 }
