@@ -1,6 +1,7 @@
-//! What the machine is and does, to stand above the tables.
+//! What the machine is and does, to stand above the tables, and what it is told at the end.
 
 use std::fs::read_to_string;
+use std::process::ExitCode;
 
 /// The processor's name, as the system has it.
 pub fn processor() -> String {
@@ -17,4 +18,15 @@ pub fn load() -> String {
         "load average {}",
         all.split(' ').next().unwrap_or("unknown")
     )
+}
+
+/// A program's exit status; a complaint is printed.
+pub fn exit_code(done: Result<(), String>) -> ExitCode {
+    match done {
+        Ok(()) => ExitCode::SUCCESS,
+        Err(complaint) => {
+            eprintln!("{complaint}");
+            ExitCode::FAILURE
+        }
+    }
 }

@@ -9,7 +9,7 @@ use std::process::{Command, ExitCode};
 use std::time::Duration;
 
 use bench::answer::Answer;
-use bench::machine::{load, processor};
+use bench::machine::{exit_code, load, processor};
 use bench::maps::{practice, NamedMap};
 use bench::planning::{Planners, Timed};
 use bench::table::{brief, grouped, ratio_text, Table};
@@ -37,13 +37,7 @@ fn main() -> ExitCode {
         }),
         _ => Err(USAGE.to_string()),
     };
-    match done {
-        Ok(()) => ExitCode::SUCCESS,
-        Err(complaint) => {
-            eprintln!("{complaint}");
-            ExitCode::FAILURE
-        }
-    }
+    exit_code(done)
 }
 
 fn report(boost: &Boost) -> Result<(), String> {

@@ -6,7 +6,7 @@ mod tables;
 
 use std::process::ExitCode;
 
-use bench::machine::{load, processor};
+use bench::machine::{exit_code, load, processor};
 use bench::maps::{dense_comb, grid, hubs, practice, uniform_grid, usual_comb, NamedMap};
 use bench::planning::{Planners, Timed, LEAST_TIME};
 use bench::trips::{NamedTrip, Targets};
@@ -68,13 +68,7 @@ fn main() -> ExitCode {
         ["--quick"] => report(&QUICK),
         _ => Err(USAGE.to_string()),
     };
-    match done {
-        Ok(()) => ExitCode::SUCCESS,
-        Err(complaint) => {
-            eprintln!("{complaint}");
-            ExitCode::FAILURE
-        }
-    }
+    exit_code(done)
 }
 
 fn report(extent: &Extent) -> Result<(), String> {
