@@ -115,5 +115,10 @@ module _ (o : order.Order) (s : State) where
   unfolding legal
   within-legal t = T-true t
 
+  -- so is what covers it
+  pub covers-legal : (b : State) → T (covers b s) → legal o s ≡ true → legal o b ≡ true
+  unfolding legal
+  covers-legal b t e = T-true (above-trans _ _ _ (times-above b s (covers-figures b s t)) (legal-within e))
+
   pub legal-clock : legal o s ≡ true → s .clock .0 ≤ o .latest .0
   legal-clock e = above-head _ _ _ _ (legal-within e)
