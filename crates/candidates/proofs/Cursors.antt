@@ -7,10 +7,8 @@ use native.Mathlib.Omega.{arith}
 use borrow.Author.Tests.{eq-eqb}
 use lib.Dec.{T}
 use Rattle.driving.specs.Hours.{lastPause}
-use Rattle.theory.specs.States.{Covered}
 use Rattle.theory.proofs.Sorting.{le-of-not, never-self}
 use Rattle.states.specs.declared.State.{State}
-use Rattle.states.specs.States.{covers}
 use Rattle.states.proofs.Compared.{rank-order}
 use Rattle.moves.specs.declared.Move.{Move}
 use Rattle.moves.specs.Trip.{Trip, roadsIn}
@@ -21,7 +19,7 @@ use Rattle.journeys.specs.Journeys.{succs}
 use Rattle.journeys.proofs.Journeys.{succs-from}
 use Rattle.labels.specs.declared.Candidate.{Candidate}
 use Rattle.candidates.specs.Candidates.{moveAt, resultAt, Names, noCandidate}
-use Rattle.candidates.specs.Next.{above, Spent, NextIs}
+use Rattle.candidates.specs.Next.{above, Needless, Spent, NextIs}
 use Rattle.candidates.specs.Trying.{Apart, BestBelow}
 use Rattle.candidates.proofs.Results.{move-drive, move-pause}
 use Rattle.candidates.proofs.Trials.{no-fit, below-below, below-apart}
@@ -70,8 +68,8 @@ module _ (trip : Trip) (s : State) where
         is = rw (by .is) (one .result);
       }
 
-  -- there is no candidate where each successor above the bound is covered
-  pub none-left : {labels : List State} {bound : State} → Spent trip labels s bound → NextIs trip labels s bound noCandidate
+  -- there is no candidate where no successor above the bound needs a turn
+  pub none-left : {labels : List State} {before : ℕ} {bound : State} → Spent trip labels before s bound → NextIs trip labels before s bound noCandidate
   none-left spent =
       record {
         passes = record { named = λ some. absurd (omega arith); higher = λ some. absurd (omega arith); passed = λ t at over below. spent t at over };
@@ -81,8 +79,9 @@ module _ (trip : Trip) (s : State) where
       }
 
 -- where all cursors are tried, the best is the next candidate
-pub tried-all : {trip : Trip} {labels : List State} {s bound : State} {next : ℕ} {best : Candidate} → next ≤ 0 → BestBelow trip labels s bound next best → NextIs trip labels s bound best
-tried-all {trip} {labels} {s} {bound} {next} {best} end tried =
+pub tried-all : {trip : Trip} {labels : List State} {before : ℕ} {s bound : State} {next : ℕ} {best : Candidate} → next ≤ 0 → BestBelow trip labels before s bound next best
+    → NextIs trip labels before s bound best
+tried-all {trip} {labels} {before} {s} {bound} {next} {best} end tried =
     record {
       passes = record {
         named = tried .found .held .named;
@@ -96,7 +95,7 @@ tried-all {trip} {labels} {s} {bound} {next} {best} end tried =
           (λ one. rw last (λ same. never-self rank-order t (resultAt trip s (best .cursor)) (sym same) over));
     }
   where
-    passed : (t : State) → List·Memᴰ t (succs trip s) → T (above bound t) → (1 ≤ best .cursor → Apart (best .more) (resultAt trip s (best .cursor)) t) → Covered covers labels t
+    passed : (t : State) → List·Memᴰ t (succs trip s) → T (above bound t) → (1 ≤ best .cursor → Apart (best .more) (resultAt trip s (best .cursor)) t) → Needless trip labels before t
     passed t at over apart =
         let led = succs-led trip s t at in
         rw (led .is)

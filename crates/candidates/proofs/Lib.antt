@@ -3,3 +3,4 @@ pub mod Results
 pub mod Trials
 pub mod Cursors
 pub mod Roads
+pub mod Rivals

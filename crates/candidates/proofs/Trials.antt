@@ -2,7 +2,7 @@
 use mathlib.Core.Path.{_≡_, _∙_, refl, sym, subst}
 use mathlib.Core.Bool.{Bool, true, false, not}
 use mathlib.Core.List.{List, List·Memᴰ·not-nil}
-use mathlib.Core.Logic.{⊎-elim}
+use mathlib.Core.Logic.{inl, inr, ⊎-elim}
 use Prim.Native.Nat.{ℕ, _+_, _≤_, _<_}
 use native.Mathlib.Omega.{arith}
 use native.Mathlib.Nat.{eq-or-lt-of-le}
@@ -19,7 +19,7 @@ use Rattle.moves.specs.Runs.{SoundTrip}
 use Rattle.labels.specs.declared.Candidate.{Candidate}
 use Rattle.labels.specs.LabelWords.{settled}
 use Rattle.candidates.specs.Candidates.{resultAt, Names, noCandidate, Fitting}
-use Rattle.candidates.specs.Next.{above}
+use Rattle.candidates.specs.Next.{above, Forestalled, Needless}
 use Rattle.candidates.specs.Trying.{Before, Follows, Apart, Other, BestBelow, Joined, same, higher, lower}
 use Rattle.candidates.proofs.Results.{clock-some, clock-none, junction-some, junction-none}
 
@@ -74,55 +74,55 @@ pub no-fit : (trip : Trip) (s : State) → Fitting trip s noCandidate
 no-fit trip s = record { named = λ some. absurd (omega arith); clock = sym (clock-none trip s 0 (omega arith)); junction = sym (junction-none trip s 0 (omega arith)) }
 
 -- nothing is tried yet
-pub tried-none : (trip : Trip) (labels : List State) (s bound : State) → BestBelow trip labels s bound 1 noCandidate
-tried-none trip labels s bound =
+pub tried-none : (trip : Trip) (labels : List State) (before : ℕ) (s bound : State) → BestBelow trip labels before s bound 1 noCandidate
+tried-none trip labels before s bound =
     record {
       found = record {
         held = no-fit trip s;
         higher = λ some. absurd (omega arith);
         uncovered = λ some. absurd (omega arith);
       };
-      passed = λ c before other. absurd (omega (arith, before (omega arith), other .named .low));
+      passed = λ c under other. absurd (omega (arith, under (omega arith), other .named .low));
     }
 
 -- cursors passed over need no trial
-pub tried-over : {trip : Trip} {labels : List State} {s bound : State} {cursor next : ℕ} {best : Candidate} → Follows trip s cursor next → BestBelow trip labels s bound (cursor + 1) best
-    → BestBelow trip labels s bound next best
+pub tried-over : {trip : Trip} {labels : List State} {before : ℕ} {s bound : State} {cursor next : ℕ} {best : Candidate} → Follows trip s cursor next
+    → BestBelow trip labels before s bound (cursor + 1) best → BestBelow trip labels before s bound next best
 tried-over {cursor = cursor} follows tried =
     record {
       found = tried .found;
-      passed = λ c before other.
+      passed = λ c under other.
           ⊎-elim
-          (λ (past : ltb cursor c ≡ true). absurd (follows .over c (ltb-true cursor c past) before (other .named)))
+          (λ (past : ltb cursor c ≡ true). absurd (follows .over c (ltb-true cursor c past) under (other .named)))
           (λ (upto : ltb cursor c ≡ false). tried .passed c (λ some. omega (arith, ltb-false cursor c upto)) other)
           (cases (ltb cursor c));
     }
 
 -- One more is tried.
-module _ {trip : Trip} {labels : List State} {s bound : State} {cursor : ℕ} {best : Candidate} (tried : BestBelow trip labels s bound cursor best) where
-  -- the others before it were so of the best before, and it is covered if it is one
-  on : (r : Candidate) → ((c : ℕ) → Other trip s bound r c → Other trip s bound best c) → (Other trip s bound r cursor → Covered covers labels (resultAt trip s cursor))
-      → (c : ℕ) → Before (cursor + 1) c → Other trip s bound r c → Covered covers labels (resultAt trip s c)
-  on r others own c before other =
+module _ {trip : Trip} {labels : List State} {before : ℕ} {s bound : State} {cursor : ℕ} {best : Candidate} (tried : BestBelow trip labels before s bound cursor best) where
+  -- the others below it were so of the best before, and it needs no turn if it is one
+  on : (r : Candidate) → ((c : ℕ) → Other trip s bound r c → Other trip s bound best c) → (Other trip s bound r cursor → Needless trip labels before (resultAt trip s cursor))
+      → (c : ℕ) → Before (cursor + 1) c → Other trip s bound r c → Needless trip labels before (resultAt trip s c)
+  on r others own c under other =
       ⊎-elim
-      (λ (is : c ≡ cursor). subst (λ (c : ℕ). Other trip s bound r c → Covered covers labels (resultAt trip s c)) (sym is) own other)
+      (λ (is : c ≡ cursor). subst (λ (c : ℕ). Other trip s bound r c → Needless trip labels before (resultAt trip s c)) (sym is) own other)
       (λ (less : c < cursor). tried .passed c (λ some. less) (others c other))
-      (eq-or-lt-of-le {n = c} {m = cursor} (omega (arith, before (omega arith))))
+      (eq-or-lt-of-le {n = c} {m = cursor} (omega (arith, under (omega arith))))
 
   -- the best stays
-  kept : (Other trip s bound best cursor → Covered covers labels (resultAt trip s cursor)) → BestBelow trip labels s bound (cursor + 1) best
+  kept : (Other trip s bound best cursor → Needless trip labels before (resultAt trip s cursor)) → BestBelow trip labels before s bound (cursor + 1) best
   kept own = record { found = tried .found; passed = on best (λ c other. other) own }
 
   -- it names no legal move
-  pub kept-unnamed : (Names trip s cursor → ⊥) → BestBelow trip labels s bound (cursor + 1) best
+  pub kept-unnamed : (Names trip s cursor → ⊥) → BestBelow trip labels before s bound (cursor + 1) best
   kept-unnamed none = kept (λ other. absurd (none (other .named)))
 
   -- what it leads to is not above the bound
-  pub kept-low : ranksNoHigher (resultAt trip s cursor) bound ≡ true → BestBelow trip labels s bound (cursor + 1) best
+  pub kept-low : ranksNoHigher (resultAt trip s cursor) bound ≡ true → BestBelow trip labels before s bound (cursor + 1) best
   kept-low low = kept (λ other. absurd (T-not (ranksNoHigher (resultAt trip s cursor) bound) (other .higher) (true-T low)))
 
   -- or does not rank below the best, where there may be more in any case
-  pub kept-high : best .more ≡ true → 1 ≤ best .cursor → T (ranksNoHigher (resultAt trip s (best .cursor)) (resultAt trip s cursor)) → BestBelow trip labels s bound (cursor + 1) best
+  pub kept-high : best .more ≡ true → 1 ≤ best .cursor → T (ranksNoHigher (resultAt trip s (best .cursor)) (resultAt trip s cursor)) → BestBelow trip labels before s bound (cursor + 1) best
   kept-high more some ranks =
       kept
       (λ other.
@@ -130,13 +130,16 @@ module _ {trip : Trip} {labels : List State} {s bound : State} {cursor : ℕ} {b
       (T-not (ranksNoHigher (resultAt trip s (best .cursor)) (resultAt trip s cursor))
       (subst (λ (m : Bool). Apart m (resultAt trip s (best .cursor)) (resultAt trip s cursor)) more (other .apart some)) ranks))
 
-  -- or is covered
-  pub kept-covered : Covered covers labels (resultAt trip s cursor) → BestBelow trip labels s bound (cursor + 1) best
-  kept-covered covered = kept (λ other. covered)
+  -- or needs no turn: it is covered, or forestalled
+  pub kept-covered : Covered covers labels (resultAt trip s cursor) → BestBelow trip labels before s bound (cursor + 1) best
+  kept-covered covered = kept (λ other. inl covered)
+
+  pub kept-forestalled : Forestalled trip labels before (resultAt trip s cursor) → BestBelow trip labels before s bound (cursor + 1) best
+  kept-forestalled forestalled = kept (λ other. inr forestalled)
 
   -- it is one more candidate
   pub tried-joined : {r : Candidate} → Names trip s cursor → T (above bound (resultAt trip s cursor)) → (Covered covers labels (resultAt trip s cursor) → ⊥) → Joined trip s best cursor r
-      → BestBelow trip labels s bound (cursor + 1) r
+      → BestBelow trip labels before s bound (cursor + 1) r
   tried-joined named over free (same some is) = kept (λ other. absurd (self-apart (best .more) _ _ is (other .apart some)))
   tried-joined named over free (higher some ranks) =
       let old = tried .found in

@@ -1,22 +1,37 @@
 // The candidates of settled labels: what a cursor names, and which candidate is next.
 ghost use mathlib.Core.Path.{_≡_};
-ghost use mathlib.Core.Bool.{false};
-ghost use Prim.Native.Nat.{_+_, _≤_, _<_};
+ghost use mathlib.Core.Bool.{true, false};
+ghost use Prim.Native.Nat.{_+_, _*_, _≤_, _<_};
 ghost use lib.ListN.{length};
+ghost use Rattle.roadmap.specs.Format.{mostRoads};
 ghost use Rattle.driving.specs.Hours.{lastPause};
 ghost use Rattle.moves.specs.Trip.{roadsIn, junctionsIn};
 ghost use Rattle.moves.specs.Runs.{Accepted, RangeIn, tripIn};
-ghost use Rattle.labels.specs.LabelWords.{settled};
+ghost use Rattle.states.specs.States.{legal};
+ghost use Rattle.states.specs.LabelSpace.{labelWords};
+ghost use Rattle.labels.specs.LabelWords.{labelAt, settled};
 ghost use Rattle.labels.specs.Lists.{Lists};
 ghost use Rattle.candidates.specs.Candidates.{resultAt, Names, Fitting};
 ghost use Rattle.candidates.specs.Next.{NextIs, Spent};
-ghost use Rattle.candidates.specs.Trying.{Worth, Follows, allowed, Joined, BestBelow};
+ghost use Rattle.candidates.specs.Trying.{hintEntries, Worth, Follows, allowed, Stands, AllStand, Contends, Ranged, Preceded, Joined, BestBelow};
 use driving::Rules;
 use labels::Candidate;
 use moves::Run;
 use roadmap::Sizes;
 use seconds::Clock;
 use states::State;
+
+// Hints spare turns and decide nothing, whatever they hold: each names a road that led to a junction
+// with this remainder, and has the low bits of the clock there; 0 is none.
+pub const HINT_ENTRIES: usize = 1024;
+
+const HINT_BASE: u32 = 65536;
+
+// A label and a move of it; none where the label is 0.
+struct Rival {
+    label: usize,
+    cursor: u32,
+}
 
 // The state that a cursor's move leads to, legal or not.
 fn result_at(map: &[u8], run: Run, state: State, cursor: u32) -> State
@@ -141,6 +156,146 @@ fn allowed(run: Run, state: State, cursor: u32) -> bool
     driving::allows_pause(run.order.rules, state.figures, cursor - sizes.roads + 1)
 }
 
+// Whether the last label before has the clock of this state. Hints are looked at and kept only then:
+// where clocks are seldom equal they cost more than they spare.
+fn shares_clock(words: &[u32], before: usize, state: State) -> bool
+    requires { ⌜ labelWords * before ≤ length (now words) ⌝ }
+{
+    if before == 0 {
+        return false;
+    }
+    let label = labels::read_label(words, before);
+    label.clock.0 == state.clock.0
+}
+
+// The road of a hint, taken by the last label where it begins; none where the hint is of another clock.
+fn hinted(map: &[u8], run: Run, words: &[u32], heads: &[u32], hint: u32, clock: u32) -> Rival
+    requires { ⌜ Accepted (now map) run ⌝ }
+    requires { ⌜ (junctionsIn (tripIn (now map) run) < length (now heads)) × AllStand (now words) (now heads) ⌝ }
+    ensures { λ r. ⌜ Contends (tripIn (now (map .entry)) run) (now (words .entry)) r ⌝ }
+{
+    let sizes = run.sizes;
+    let road = hint / HINT_BASE;
+    let none = Rival {
+        label: 0,
+        cursor: road,
+    };
+    if hint % HINT_BASE != clock % HINT_BASE {
+        return none;
+    }
+    if road == 0 {
+        return none;
+    }
+    if sizes.roads < road {
+        return none;
+    }
+    let from = roadmap::road_from(map, sizes, road);
+    Rival {
+        label: heads[from as usize] as usize,
+        cursor: road,
+    }
+}
+
+// What may forestall the move under this cursor: the same pause of the last label before at the
+// junction or, where clocks are tied, a drive to the same junction, by the hint.
+fn rival_of(
+    map: &[u8],
+    run: Run,
+    words: &[u32],
+    heads: &[u32],
+    hint: u32,
+    clock: u32,
+    tied: bool,
+    last: usize,
+    cursor: u32,
+) -> Rival
+    requires { ⌜ Accepted (now map) run ⌝ }
+    requires { ⌜ (junctionsIn (tripIn (now map) run) < length (now heads)) × AllStand (now words) (now heads) ⌝ }
+    requires { ⌜ (roadsIn (tripIn (now map) run) < cursor → 1 ≤ last → Worth (tripIn (now map) run) (labelAt (now words) last) cursor) ⌝ }
+    ensures { λ r. ⌜ Contends (tripIn (now (map .entry)) run) (now (words .entry)) r ⌝ }
+{
+    if run.sizes.roads < cursor {
+        return Rival {
+            label: last,
+            cursor,
+        };
+    }
+    if !tied {
+        return Rival { label: 0, cursor };
+    }
+    hinted(map, run, words, heads, hint, clock)
+}
+
+// Whether a rival, of a label before, leads to a state that covers this one.
+fn leads(map: &[u8], run: Run, words: &[u32], before: usize, by: Rival, reached: State) -> bool
+    requires { ⌜ Accepted (now map) run ⌝ }
+    requires { ⌜ Ranged (tripIn (now map) run) (now words) before × (labelWords * before ≤ length (now words)) ⌝ }
+    requires { ⌜ Contends (tripIn (now map) run) (now words) by × (legal (run .order) reached ≡ true) ⌝ }
+    ensures { λ r. ⌜ (r ≡ true → Preceded (tripIn (now (map .entry)) run) (now (words .entry)) before reached) ⌝ }
+{
+    if by.label == 0 {
+        return false;
+    }
+    if before < by.label {
+        return false;
+    }
+    let label = labels::read_label(words, by.label);
+    if !allowed(run, label, by.cursor) {
+        return false;
+    }
+    let there = result_at(map, run, label, by.cursor);
+    states::covers(there, reached)
+}
+
+// Whether a label before has a successor that covers this one, where the last at the junction or a hint
+// shows one. Its turn comes first.
+fn forestalled(
+    map: &[u8],
+    run: Run,
+    words: &[u32],
+    heads: &[u32],
+    hints: &[u32],
+    before: usize,
+    tied: bool,
+    last: usize,
+    cursor: u32,
+    reached: State,
+) -> bool
+    requires { ⌜ Accepted (now map) run × (legal (run .order) reached ≡ true) ⌝ }
+    requires { ⌜ (junctionsIn (tripIn (now map) run) < length (now heads)) × AllStand (now words) (now heads) ⌝ }
+    requires { ⌜ Ranged (tripIn (now map) run) (now words) before × (labelWords * before ≤ length (now words)) × (hintEntries ≤ length (now hints)) ⌝ }
+    requires { ⌜ (roadsIn (tripIn (now map) run) < cursor → 1 ≤ last → Worth (tripIn (now map) run) (labelAt (now words) last) cursor) ⌝ }
+    ensures { λ r. ⌜ (r ≡ true → Preceded (tripIn (now (map .entry)) run) (now (words .entry)) before reached) ⌝ }
+{
+    let hint = hints[reached.junction as usize % HINT_ENTRIES];
+    let by = rival_of(
+        map,
+        run,
+        words,
+        heads,
+        hint,
+        reached.clock.0,
+        tied,
+        last,
+        cursor,
+    );
+    leads(map, run, words, before, by, reached)
+}
+
+// Keeps a hint of the road under a cursor, where clocks are tied; of a pause none.
+fn keep_hint(hints: &mut [u32], run: Run, tied: bool, reached: State, cursor: u32)
+    requires { ⌜ (hintEntries ≤ length (now hints)) × (run .sizes .roads ≤ mostRoads) ⌝ }
+{
+    if !tied {
+        return;
+    }
+    if run.sizes.roads < cursor {
+        return;
+    }
+    hints[reached.junction as usize % HINT_ENTRIES] = HINT_BASE * cursor
+        + reached.clock.0 % HINT_BASE;
+}
+
 // The best so far with the successor under this cursor. Labels are looked at only where it would tell something.
 fn weigh(
     map: &[u8],
@@ -149,7 +304,11 @@ fn weigh(
     heads: &[u32],
     spells: &[u32],
     shifts: &[u32],
+    hints: &mut [u32],
     n: usize,
+    before: usize,
+    tied: bool,
+    last: usize,
     state: State,
     bound: State,
     best: Candidate,
@@ -158,8 +317,9 @@ fn weigh(
     requires { ⌜ Accepted (now map) run ⌝ }
     requires { ⌜ RangeIn (tripIn (now map) run) state ⌝ }
     requires { ⌜ Lists (now words) (now heads) (now spells) (now shifts) n × (junctionsIn (tripIn (now map) run) < length (now heads)) ⌝ }
-    requires { ⌜ Worth (tripIn (now map) run) state cursor × BestBelow (tripIn (now map) run) (settled (now words) n) state bound cursor best ⌝ }
-    ensures { λ r. ⌜ BestBelow (tripIn (now (map .entry)) run) (settled (now (words .entry)) n) state bound (cursor + 1) r ⌝ }
+    requires { ⌜ (before ≤ n) × Ranged (tripIn (now map) run) (now words) before × Stands (now words) (state .junction) last × (hintEntries ≤ length (now hints)) ⌝ }
+    requires { ⌜ Worth (tripIn (now map) run) state cursor × BestBelow (tripIn (now map) run) (settled (now words) n) before state bound cursor best ⌝ }
+    ensures { λ r. ⌜ BestBelow (tripIn (now (map .entry)) run) (settled (now (words .entry)) n) before state bound (cursor + 1) r ⌝ }
 {
     if !allowed(run, state, cursor) {
         return best;
@@ -179,6 +339,21 @@ fn weigh(
     if labels::covered(words, heads, spells, shifts, n, 0, reached) {
         return best;
     }
+    if forestalled(
+        map,
+        run,
+        words,
+        heads,
+        hints,
+        before,
+        tied,
+        last,
+        cursor,
+        reached,
+    ) {
+        return best;
+    }
+    keep_hint(hints, run, tied, reached, cursor);
     joined(map, run, run.sizes, state, best, reached, cursor)
 }
 
@@ -229,7 +404,8 @@ fn following(map: &[u8], run: Run, state: State, cursor: u32) -> u32
     cursor + 1
 }
 
-// The lowest-ranked successor above the bound that no label covers, if there is one.
+// The lowest-ranked successor above the bound that needs a turn, if there is one. So many labels stand
+// before this one, and `last` is the last of them at its junction, or 0.
 pub fn next_candidate(
     map: &[u8],
     run: Run,
@@ -237,31 +413,47 @@ pub fn next_candidate(
     heads: &[u32],
     spells: &[u32],
     shifts: &[u32],
+    hints: &mut [u32],
     n: usize,
+    before: usize,
+    last: usize,
     state: State,
     bound: State,
 ) -> Candidate
     requires { ⌜ Accepted (now map) run ⌝ }
     requires { ⌜ RangeIn (tripIn (now map) run) state ⌝ }
     requires { ⌜ Lists (now words) (now heads) (now spells) (now shifts) n × (junctionsIn (tripIn (now map) run) < length (now heads)) ⌝ }
-    ensures { λ r. ⌜ NextIs (tripIn (now (map .entry)) run) (settled (now (words .entry)) n) state bound r ⌝ }
+    requires { ⌜ (before ≤ n) × Ranged (tripIn (now map) run) (now words) before × Stands (now words) (state .junction) last × (hintEntries ≤ length (now hints)) ⌝ }
+    ensures { λ r. ⌜ NextIs (tripIn (now (map .entry)) run) (settled (now (words .entry)) n) before state bound r ⌝ }
 {
+    let tied = shares_clock(words, before, state);
     let mut best = Candidate::NONE;
     let mut cursor = first_cursor(map, run, state);
     while 0 < cursor {
-        best = weigh(
+        let weighed = weigh(
             map,
             run,
             words,
             heads,
             spells,
             shifts,
+            hints,
             n,
+            before,
+            tied,
+            last,
             state,
             bound,
             best,
             cursor,
         );
+        // Field by field, so that no turn of the loop carries the bytes that fill `more` up to a word.
+        best = Candidate {
+            cursor: weighed.cursor,
+            junction: weighed.junction,
+            clock: weighed.clock,
+            more: weighed.more,
+        };
         cursor = following(map, run, state, cursor);
     }
     best
@@ -275,7 +467,10 @@ pub fn candidate_after(
     heads: &[u32],
     spells: &[u32],
     shifts: &[u32],
+    hints: &mut [u32],
     n: usize,
+    before: usize,
+    last: usize,
     state: State,
     bound: State,
     more: bool,
@@ -283,11 +478,25 @@ pub fn candidate_after(
     requires { ⌜ Accepted (now map) run ⌝ }
     requires { ⌜ RangeIn (tripIn (now map) run) state ⌝ }
     requires { ⌜ Lists (now words) (now heads) (now spells) (now shifts) n × (junctionsIn (tripIn (now map) run) < length (now heads)) ⌝ }
-    requires { ⌜ (more ≡ false → Spent (tripIn (now map) run) (settled (now words) n) state bound) ⌝ }
-    ensures { λ r. ⌜ NextIs (tripIn (now (map .entry)) run) (settled (now (words .entry)) n) state bound r ⌝ }
+    requires { ⌜ (before ≤ n) × Ranged (tripIn (now map) run) (now words) before × Stands (now words) (state .junction) last × (hintEntries ≤ length (now hints)) ⌝ }
+    requires { ⌜ (more ≡ false → Spent (tripIn (now map) run) (settled (now words) n) before state bound) ⌝ }
+    ensures { λ r. ⌜ NextIs (tripIn (now (map .entry)) run) (settled (now (words .entry)) n) before state bound r ⌝ }
 {
     if more {
-        return next_candidate(map, run, words, heads, spells, shifts, n, state, bound);
+        return next_candidate(
+            map,
+            run,
+            words,
+            heads,
+            spells,
+            shifts,
+            hints,
+            n,
+            before,
+            last,
+            state,
+            bound,
+        );
     }
     Candidate::NONE
 }

@@ -18,6 +18,7 @@ use Rattle.labels.specs.LabelWords.{settled, column}
 use Rattle.labels.specs.Lists.{Lists, LabelAdded}
 use Rattle.labels.proofs.Lists.{lists-none, lists-same}
 use Rattle.candidates.specs.Next.{Passes, NextIs}
+use Rattle.candidates.specs.Trying.{hintEntries}
 use Rattle.winners.specs.Keys.{Ready}
 use Rattle.winners.specs.Mending.{Mended}
 use Rattle.winners.proofs.Keys.{only-labels}
@@ -42,6 +43,10 @@ cleared ws size junctions few =
     let none : ((j : ℕ) → j < size → getD (zeros size) j 0 ≡ 0) = λ j h. getD-replicate size j 0 0 h in
     (lists-none ws (zeros size) (zeros size) (zeros size) size long long long none none none, omega (arith, long))
 
+-- and so many hints stand in as many words
+pub hints-cleared : hintEntries ≤ length (zeros hintEntries)
+hints-cleared = omega (arith, length-replicate {A = ℕ} hintEntries 0)
+
 module _ {map : List ℕ} {run : Run} {trip : Trip} (tied : Tied map run trip) (sound : SoundTrip trip) {start : State} (is : start ≡ startOf (run .order)) where
   pub start-within : RangeIn trip start
   start-within = rw is (run-starts tied sound)
@@ -50,15 +55,15 @@ module _ {map : List ℕ} {run : Run} {trip : Trip} (tied : Tied map run trip) (
   in-trip = is ∙ ap startOf (sym (tied .order))
 
   -- the start has come in as the first label
-  module _ {ws ws₁ hs ss fs : List ℕ} {u : Candidate} (next : NextIs trip (settled ws 0) start start u)
+  module _ {ws ws₁ hs ss fs : List ℕ} {u : Candidate} (next : NextIs trip (settled ws 0) 0 start start u)
       (A : LabelAdded ws ws₁ hs ss fs 0 start 0 u) where
     pub first-ready : length ws₁ ≡ length ws → Ready trip ws₁ 1
     first-ready long =
         ready-added (A .added) trip (λ k low high. absurd (omega arith)) long (omega (arith, A .lists .room)) (omega arith) start-within (next .fitting)
 
-    loop-next : Passes trip (startIn trip ∷ []) (startIn trip) (startIn trip) (u .cursor)
+    loop-next : Passes trip (startIn trip ∷ []) 0 (startIn trip) (startIn trip) (u .cursor)
     unfolding settled
-    loop-next = subst (λ (z : State). Passes trip (z ∷ []) z z (u .cursor)) in-trip (passes-wider trip [] start start start (u .cursor) (next .passes))
+    loop-next = subst (λ (z : State). Passes trip (z ∷ []) 0 z z (u .cursor)) in-trip (passes-wider trip [] 0 start start start (u .cursor) (omega arith) (next .passes))
 
     module _ {ws′ : List ℕ} (M : Mended trip ws₁ ws′ 1) where
       states : settled ws′ 1 ≡ startIn trip ∷ []

@@ -41,7 +41,7 @@ later-key c c′ r r′ small small′ low low′ few later = go (decLe (rankNum
     go (no h) = omega (arith, under)
 
 module _ (trip : Trip) (sound : SoundTrip trip) {ws hs ss fs : List ℕ} {n : ℕ} (U : Underway trip ws hs ss fs n) (r : ℕ) (c : State) (won : Chosen trip ws n r c)
-    (ws′ : List ℕ) (v : Candidate) (next : NextIs trip (settled ws n) (labelAt ws r) c v) (A : Advanced trip ws ws′ n r v) where
+    (ws′ : List ℕ) (v : Candidate) (next : NextIs trip (settled ws n) (r - 1) (labelAt ws r) c v) (A : Advanced trip ws ws′ n r v) where
   leads′ : LeastKey trip ws′ n (winnerOf ws′ 1)
   leads′ = leads trip ws′ n (U .low) (A .tree)
 
@@ -71,7 +71,7 @@ module _ (trip : Trip) (sound : SoundTrip trip) {ws hs ss fs : List ℕ} {n : �
     later′ =
         subst₂ (λ (z z′ : State). Later z (r - 1) z′ (r′ - 1)) (loop-candidate trip U r c won) candidate′
         (covered-later trip (settled ws n) (cursorsOf ws n) (parentsOf ws n) (U .loop) (r - 1) (won .winner) (v .cursor)
-        (subst₂ (λ (s z : State). Passes trip (settled ws n) s z (v .cursor)) (sym (loop-state trip U r c won)) (sym (loop-candidate trip U r c won)) (next .passes))
+        (subst₂ (λ (s z : State). Passes trip (settled ws n) (r - 1) s z (v .cursor)) (sym (loop-state trip U r c won)) (sym (loop-candidate trip U r c won)) (next .passes))
         (r′ - 1) winner′)
 
     higher : keyAt trip ws r < keyAt trip ws′ r′

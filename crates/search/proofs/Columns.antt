@@ -42,6 +42,11 @@ module _ (trip : Trip) (ws : List ℕ) (n : ℕ) where
 
   -- index i is label i + 1
   module _ (i : ℕ) (h : i < n) where
+    pub state-next : stateAt trip (settled ws n) i ≡ labelAt ws (i + 1)
+    state-next =
+        let e : i ≡ i + 1 - 1 = omega arith in
+        ap (λ x. stateAt trip (settled ws n) x) e ∙ state-is (i + 1) (omega arith) (omega arith)
+
     pub cursor-next : getD (cursorsOf ws n) i 0 ≡ cursorOf ws (i + 1)
     cursor-next = cursor-at ws n i h
 

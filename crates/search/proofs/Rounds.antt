@@ -17,22 +17,23 @@ use Rattle.search.specs.Turns as turns
 use Rattle.search.specs.Turns.{TurnSays, OutcomeSays}
 
 -- the search is under way with n labels, which fit, in slices as long as they were
-pub record Between (trip : Trip) (ws₀ hs₀ ss₀ fs₀ ws hs ss fs : List ℕ) (fit n : ℕ) : Type 0 where
+pub record Between (trip : Trip) (ws₀ hs₀ ss₀ fs₀ is₀ ws hs ss fs is : List ℕ) (fit n : ℕ) : Type 0 where
   pub underway : Underway trip ws hs ss fs n
   pub fits : n ≤ fit
   pub long-words : length ws ≡ length ws₀
   pub long-heads : length hs ≡ length hs₀
   pub long-spells : length ss ≡ length ss₀
   pub long-shifts : length fs ≡ length fs₀
+  pub long-hints : length is ≡ length is₀
 
 goes-on : {trip : Trip} {fit key n m : ℕ} {ws hs ss fs : List ℕ} → TurnSays trip fit key n ws hs ss fs (Turn.Goes m) → Onward trip key ws hs ss fs m × (m ≤ fit)
 goes-on (turns.goes onward room) = (onward, room)
 
 -- a turn that goes on
-pub between-next : {trip : Trip} {ws₀ hs₀ ss₀ fs₀ ws hs ss fs ws′ hs′ ss′ fs′ : List ℕ} {fit key n m : ℕ}
-    → Between trip ws₀ hs₀ ss₀ fs₀ ws hs ss fs fit n → length ws′ ≡ length ws → length hs′ ≡ length hs → length ss′ ≡ length ss → length fs′ ≡ length fs
-    → TurnSays trip fit key n ws′ hs′ ss′ fs′ (Turn.Goes m) → Between trip ws₀ hs₀ ss₀ fs₀ ws′ hs′ ss′ fs′ fit m
-between-next B lw lh ls lf says =
+pub between-next : {trip : Trip} {ws₀ hs₀ ss₀ fs₀ is₀ ws hs ss fs is ws′ hs′ ss′ fs′ is′ : List ℕ} {fit key n m : ℕ}
+    → Between trip ws₀ hs₀ ss₀ fs₀ is₀ ws hs ss fs is fit n → length ws′ ≡ length ws → length hs′ ≡ length hs → length ss′ ≡ length ss → length fs′ ≡ length fs → length is′ ≡ length is
+    → TurnSays trip fit key n ws′ hs′ ss′ fs′ (Turn.Goes m) → Between trip ws₀ hs₀ ss₀ fs₀ is₀ ws′ hs′ ss′ fs′ is′ fit m
+between-next B lw lh ls lf li says =
     let on = goes-on says in
     record {
       underway = on .0 .underway;
@@ -41,6 +42,7 @@ between-next B lw lh ls lf says =
       long-heads = lh ∙ B .long-heads;
       long-spells = ls ∙ B .long-spells;
       long-shifts = lf ∙ B .long-shifts;
+      long-hints = li ∙ B .long-hints;
     }
 
 -- leaves fewer keys above the root's

@@ -1,7 +1,7 @@
 -- A turn of the loop, in the words: a candidate passed over, and a label settled. Assumes nothing.
 use mathlib.Core.Path.{_≡_, _∙_, refl, sym, subst, subst₂}
 use mathlib.Core.List.{List, [], _∷_, _++_, List·Memᴰ·head, Memᴰ·append-right}
-use Prim.Native.Nat.{ℕ, _+_, _-_, _<_}
+use Prim.Native.Nat.{ℕ, _+_, _-_, _≤_, _<_}
 use native.Mathlib.Omega.{arith}
 use native.Mathlib.Nat.{le-refl}
 use lib.Dec.{T}
@@ -24,19 +24,20 @@ use Rattle.winners.specs.Mending.{Advanced, Mended}
 use Rattle.winners.proofs.Keys.{result-range, same-cursor, only-label, only-labels, only-candidate, key-kept}
 use Rattle.winners.proofs.Steps.{added-label, added-candidate, advanced-labels, key-added}
 use Rattle.settling.specs.Settling.{stateAt, candidateOf, Searching, Winner}
-use Rattle.settling.proofs.Pending.{covered-wider}
+use Rattle.settling.proofs.Pending.{needless-wider}
 use Rattle.settling.proofs.Turns.{turn-covered, turn-settled, settled-winner}
 use Rattle.search.specs.Underway.{cursorsOf, parentsOf, Underway, Chosen, Onward}
-use Rattle.search.proofs.Columns.{state-is, candidate-is, advanced-states, advanced-parents, advanced-cursors, added-states, added-cursors, added-parents}
+use Rattle.search.proofs.Columns.{states-length, state-is, candidate-is, advanced-states, advanced-parents, advanced-cursors, added-states, added-cursors, added-parents}
 use Rattle.search.proofs.Keeping.{added-kept, advanced-kept}
 
 -- what is passed stays so with one more label
-pub passes-wider : (trip : Trip) (L : List State) (c s bound : State) (v : ℕ) → Passes trip L s bound v → Passes trip (L ++ c ∷ []) s bound v
-passes-wider trip L c s bound v next =
+pub passes-wider : (trip : Trip) (L : List State) (before : ℕ) (c s bound : State) (v : ℕ) → before ≤ length L
+    → Passes trip L before s bound v → Passes trip (L ++ c ∷ []) before s bound v
+passes-wider trip L before c s bound v h next =
     record {
       named = next .named;
       higher = next .higher;
-      passed = λ t m over below. covered-wider L c t (next .passed t m over below);
+      passed = λ t m over below. needless-wider trip L c before t h (next .passed t m over below);
     }
 
 -- the key below which the search is, told otherwise
@@ -53,7 +54,7 @@ module _ (trip : Trip) {ws hs ss fs : List ℕ} {n : ℕ} (U : Underway trip ws 
 
   -- the candidate is covered, and the label has its next
   pub passed-over : (ws′ : List ℕ) (v : Candidate) → Covered covers (settled ws n) c
-      → NextIs trip (settled ws n) (labelAt ws r) c v → Advanced trip ws ws′ n r v → Underway trip ws′ hs ss fs n
+      → NextIs trip (settled ws n) (r - 1) (labelAt ws r) c v → Advanced trip ws ws′ n r v → Underway trip ws′ hs ss fs n
   passed-over ws′ v cov next A =
       record {
         low = U .low;
@@ -69,18 +70,20 @@ module _ (trip : Trip) {ws hs ss fs : List ℕ} {n : ℕ} (U : Underway trip ws 
       turned =
           turn-covered trip (settled ws n) (cursorsOf ws n) (parentsOf ws n) (U .loop) (r - 1) (won .winner) (v .cursor)
           (subst (λ (z : State). Covered covers (settled ws n) z) (sym loop-candidate) cov)
-          (subst₂ (λ (s z : State). Passes trip (settled ws n) s z (v .cursor)) (sym loop-state) (sym loop-candidate) (next .passes))
+          (subst₂ (λ (s z : State). Passes trip (settled ws n) (r - 1) s z (v .cursor)) (sym loop-state) (sym loop-candidate) (next .passes))
 
   -- the candidate is not covered and not at target: it is the next label
   module _ (sound : SoundTrip trip) (new : ¬ Covered covers (settled ws n) c) (out : ¬ T (atTarget trip c)) (ws₁ ws′ hs′ ss′ fs′ : List ℕ) (u : Candidate)
-      (next : NextIs trip (settled ws n) c c u) (A : LabelAdded ws ws₁ hs′ ss′ fs′ n c r u)
+      (next : NextIs trip (settled ws n) n c c u) (A : LabelAdded ws ws₁ hs′ ss′ fs′ n c r u)
       (M : Mended trip ws₁ ws′ (n + 1)) where
     abbrev cand : State
     cand = candidateOf trip (settled ws n) (cursorsOf ws n) (r - 1)
 
-    loop-next : Passes trip (settled ws n ++ cand ∷ []) cand cand (u .cursor)
+    loop-next : Passes trip (settled ws n ++ cand ∷ []) (length (settled ws n)) cand cand (u .cursor)
     loop-next =
-        subst (λ (z : State). Passes trip (settled ws n ++ z ∷ []) z z (u .cursor)) (sym loop-candidate) (passes-wider trip (settled ws n) c c c (u .cursor) (next .passes))
+        rw (states-length trip ws n)
+        (subst (λ (z : State). Passes trip (settled ws n ++ z ∷ []) n z z (u .cursor)) (sym loop-candidate)
+        (passes-wider trip (settled ws n) n c c c (u .cursor) (omega (arith, states-length trip ws n)) (next .passes)))
 
     states : settled ws′ (n + 1) ≡ settled ws n ++ c ∷ []
     states = added-states ws ws₁ ws′ (A .added) (M .only)

@@ -26,8 +26,8 @@ parentsOf ws n = column parentOf ws n
 pub record Kept (trip : Trip) (ws : List ℕ) (n k : ℕ) : Type 0 where
   -- no label before k covers it
   pub fresh : 1 ≤ cursorOf ws k → Covered covers (settled ws (k - 1)) (candidate trip ws k) → ⊥
-  -- where no more are left, a label covers each successor above it
-  pub spent : moreOf ws k ≡ false → 1 ≤ cursorOf ws k → Spent trip (settled ws n) (labelAt ws k) (candidate trip ws k)
+  -- where no more are left, no successor above it needs a turn
+  pub spent : moreOf ws k ≡ false → 1 ≤ cursorOf ws k → Spent trip (settled ws n) (k - 1) (labelAt ws k) (candidate trip ws k)
 
 pub record Underway (trip : Trip) (ws hs ss fs : List ℕ) (n : ℕ) : Type 0 where
   pub low : 1 ≤ n

@@ -11,6 +11,7 @@ ghost use Rattle.states.specs.LabelSpace.{labelWords, mostLabels};
 ghost use Rattle.labels.specs.LabelWords.{winnerOf, settled};
 ghost use Rattle.labels.specs.Lists.{Lists, LabelAdded};
 ghost use Rattle.candidates.specs.Candidates.{noCandidate};
+ghost use Rattle.candidates.specs.Trying.{hintEntries};
 ghost use Rattle.winners.specs.Keys.{keyAt};
 ghost use Rattle.winners.specs.Mending.{Live, LeastKey};
 ghost use Rattle.search.specs.Underway.{Underway, Chosen, Onward};
@@ -50,6 +51,7 @@ fn pass_over(
     heads: &[u32],
     spells: &[u32],
     shifts: &[u32],
+    hints: &mut [u32],
     n: usize,
     w: usize,
     candidate: State,
@@ -57,11 +59,11 @@ fn pass_over(
     requires { ⌜ Accepted (now map) run ⌝ }
     requires { ⌜ Underway (tripIn (now map) run) (now words) (now heads) (now spells) (now shifts) n ⌝ }
     requires { ⌜ Chosen (tripIn (now map) run) (now words) n w candidate ⌝ }
-    requires { ⌜ Covered covers (settled (now words) n) candidate ⌝ }
+    requires { ⌜ Covered covers (settled (now words) n) candidate × (hintEntries ≤ length (now hints)) ⌝ }
     ensures { λ _. ⌜ Onward (tripIn (now (map .entry)) run) (keyAt (tripIn (now (map .entry)) run) (now (words .entry)) w) (now (words .exit)) (now (heads .entry)) (now (spells .entry)) (now (shifts .entry)) n ⌝ }
 {
     let state = labels::read_label(words, w);
-    let last = labels::read_candidate(words, w);
+    let offered = labels::read_candidate(words, w);
     let next = candidates::candidate_after(
         map,
         run,
@@ -69,10 +71,13 @@ fn pass_over(
         heads,
         spells,
         shifts,
+        hints,
         n,
+        w - 1,
+        labels::previous(words, w) as usize,
         state,
         candidate,
-        last.more,
+        offered.more,
     );
     winners::advance(map, run, words, n, w, next);
 }
@@ -85,6 +90,7 @@ fn settle_label(
     heads: &mut [u32],
     spells: &mut [u32],
     shifts: &mut [u32],
+    hints: &mut [u32],
     n: usize,
     w: usize,
     candidate: State,
@@ -93,7 +99,7 @@ fn settle_label(
     requires { ⌜ Underway (tripIn (now map) run) (now words) (now heads) (now spells) (now shifts) n ⌝ }
     requires { ⌜ Chosen (tripIn (now map) run) (now words) n w candidate ⌝ }
     requires { ⌜ (Covered covers (settled (now words) n) candidate → ⊥) × (T (atTarget (tripIn (now map) run) candidate) → ⊥) ⌝ }
-    requires { ⌜ (n + 1 < 4294967296) × (labelWords * (n + 1) ≤ length (now words)) ⌝ }
+    requires { ⌜ (n + 1 < 4294967296) × (labelWords * (n + 1) ≤ length (now words)) × (hintEntries ≤ length (now hints)) ⌝ }
     ensures { λ _. ⌜ Onward (tripIn (now (map .entry)) run) (keyAt (tripIn (now (map .entry)) run) (now (words .entry)) w) (now (words .exit)) (now (heads .exit)) (now (spells .exit)) (now (shifts .exit)) (n + 1) ⌝ }
 {
     let next = candidates::next_candidate(
@@ -103,13 +109,27 @@ fn settle_label(
         heads,
         spells,
         shifts,
+        hints,
         n,
+        n,
+        heads[candidate.junction as usize] as usize,
         candidate,
         candidate,
     );
     labels::add_label(words, heads, spells, shifts, n, candidate, w as u32, next);
     winners::enter(map, run, words, n);
-    pass_over(map, run, words, heads, spells, shifts, n + 1, w, candidate);
+    pass_over(
+        map,
+        run,
+        words,
+        heads,
+        spells,
+        shifts,
+        hints,
+        n + 1,
+        w,
+        candidate,
+    );
 }
 
 // Label w's candidate is at target, and covered by none: it is the answer, and the last label.
@@ -146,6 +166,7 @@ fn settle(
     heads: &mut [u32],
     spells: &mut [u32],
     shifts: &mut [u32],
+    hints: &mut [u32],
     fit: usize,
     n: usize,
     w: usize,
@@ -155,7 +176,7 @@ fn settle(
     requires { ⌜ Underway (tripIn (now map) run) (now words) (now heads) (now spells) (now shifts) n ⌝ }
     requires { ⌜ Chosen (tripIn (now map) run) (now words) n w candidate ⌝ }
     requires { ⌜ (Covered covers (settled (now words) n) candidate → ⊥) ⌝ }
-    requires { ⌜ (n ≤ fit) × (fit ≤ mostLabels) × (labelWords * fit ≤ length (now words)) ⌝ }
+    requires { ⌜ (n ≤ fit) × (fit ≤ mostLabels) × (labelWords * fit ≤ length (now words)) × (hintEntries ≤ length (now hints)) ⌝ }
     ensures { λ r. ⌜ TurnSays (tripIn (now (map .entry)) run) fit (keyAt (tripIn (now (map .entry)) run) (now (words .entry)) w) n (now (words .exit)) (now (heads .exit)) (now (spells .exit)) (now (shifts .exit)) r ⌝ }
 {
     if n == fit {
@@ -165,7 +186,18 @@ fn settle(
         settle_last(words, heads, spells, shifts, n, w, candidate);
         return Turn::Found;
     }
-    settle_label(map, run, words, heads, spells, shifts, n, w, candidate);
+    settle_label(
+        map,
+        run,
+        words,
+        heads,
+        spells,
+        shifts,
+        hints,
+        n,
+        w,
+        candidate,
+    );
     Turn::Goes(n + 1)
 }
 
@@ -178,6 +210,7 @@ fn offer(
     heads: &mut [u32],
     spells: &mut [u32],
     shifts: &mut [u32],
+    hints: &mut [u32],
     fit: usize,
     n: usize,
     w: usize,
@@ -185,16 +218,39 @@ fn offer(
     requires { ⌜ Accepted (now map) run ⌝ }
     requires { ⌜ Underway (tripIn (now map) run) (now words) (now heads) (now spells) (now shifts) n ⌝ }
     requires { ⌜ LeastKey (tripIn (now map) run) (now words) n w × Live (tripIn (now map) run) (now words) w ⌝ }
-    requires { ⌜ (n ≤ fit) × (fit ≤ mostLabels) × (labelWords * fit ≤ length (now words)) ⌝ }
+    requires { ⌜ (n ≤ fit) × (fit ≤ mostLabels) × (labelWords * fit ≤ length (now words)) × (hintEntries ≤ length (now hints)) ⌝ }
     ensures { λ r. ⌜ TurnSays (tripIn (now (map .entry)) run) fit (keyAt (tripIn (now (map .entry)) run) (now (words .entry)) w) n (now (words .exit)) (now (heads .exit)) (now (spells .exit)) (now (shifts .exit)) r ⌝ }
 {
     let sizes = run.sizes;
     let candidate = winners::candidate_at(map, run, sizes, words, w);
     if labels::covered(words, heads, spells, shifts, n, w - 1, candidate) {
-        pass_over(map, run, words, heads, spells, shifts, n, w, candidate);
+        pass_over(
+            map,
+            run,
+            words,
+            heads,
+            spells,
+            shifts,
+            hints,
+            n,
+            w,
+            candidate,
+        );
         return Turn::Goes(n);
     }
-    settle(map, run, words, heads, spells, shifts, fit, n, w, candidate)
+    settle(
+        map,
+        run,
+        words,
+        heads,
+        spells,
+        shifts,
+        hints,
+        fit,
+        n,
+        w,
+        candidate,
+    )
 }
 
 // One turn of the loop: the label with the lowest candidate, if one has any, offers it.
@@ -205,12 +261,13 @@ fn take_turn(
     heads: &mut [u32],
     spells: &mut [u32],
     shifts: &mut [u32],
+    hints: &mut [u32],
     fit: usize,
     n: usize,
 ) -> Turn
     requires { ⌜ Accepted (now map) run ⌝ }
     requires { ⌜ Underway (tripIn (now map) run) (now words) (now heads) (now spells) (now shifts) n ⌝ }
-    requires { ⌜ (n ≤ fit) × (fit ≤ mostLabels) × (labelWords * fit ≤ length (now words)) ⌝ }
+    requires { ⌜ (n ≤ fit) × (fit ≤ mostLabels) × (labelWords * fit ≤ length (now words)) × (hintEntries ≤ length (now hints)) ⌝ }
     ensures { λ r. ⌜ TurnSays (tripIn (now (map .entry)) run) fit (keyAt (tripIn (now (map .entry)) run) (now (words .entry)) (winnerOf (now (words .entry)) 1)) n (now (words .exit)) (now (heads .exit)) (now (spells .exit)) (now (shifts .exit)) r ⌝ }
 {
     let w = winners::leading(words, n);
@@ -220,7 +277,7 @@ fn take_turn(
     if labels::own_clock(words, w) == Candidate::NO_CLOCK {
         return Turn::Exhausted;
     }
-    offer(map, run, words, heads, spells, shifts, fit, n, w)
+    offer(map, run, words, heads, spells, shifts, hints, fit, n, w)
 }
 
 // Turn by turn from the first label to the end of the search.
@@ -231,16 +288,17 @@ fn settle_all(
     heads: &mut [u32],
     spells: &mut [u32],
     shifts: &mut [u32],
+    hints: &mut [u32],
     fit: usize,
 ) -> Outcome
     requires { ⌜ Accepted (now map) run ⌝ }
     requires { ⌜ Underway (tripIn (now map) run) (now words) (now heads) (now spells) (now shifts) 1 ⌝ }
-    requires { ⌜ (1 ≤ fit) × (fit ≤ mostLabels) × (labelWords * fit ≤ length (now words)) ⌝ }
+    requires { ⌜ (1 ≤ fit) × (fit ≤ mostLabels) × (labelWords * fit ≤ length (now words)) × (hintEntries ≤ length (now hints)) ⌝ }
     ensures { λ r. ⌜ OutcomeSays (tripIn (now (map .entry)) run) fit (now (words .exit)) r ⌝ }
 {
     let mut n: usize = 1;
     loop {
-        let turn = take_turn(map, run, words, heads, spells, shifts, fit, n);
+        let turn = take_turn(map, run, words, heads, spells, shifts, hints, fit, n);
         match turn {
             Turn::Goes(labels) => {
                 n = labels;
@@ -260,15 +318,29 @@ fn begin(
     heads: &mut [u32],
     spells: &mut [u32],
     shifts: &mut [u32],
+    hints: &mut [u32],
 )
     requires { ⌜ Accepted (now map) run ⌝ }
     requires { ⌜ Lists (now words) (now heads) (now spells) (now shifts) 0 ⌝ }
-    requires { ⌜ (junctionsIn (tripIn (now map) run) < length (now heads)) × (labelWords ≤ length (now words)) ⌝ }
+    requires { ⌜ (junctionsIn (tripIn (now map) run) < length (now heads)) × (labelWords ≤ length (now words)) × (hintEntries ≤ length (now hints)) ⌝ }
     ensures { λ _. ⌜ Begun (tripIn (now (map .entry)) run) (now (words .exit)) (now (heads .exit)) (now (spells .exit)) (now (shifts .exit)) ⌝ }
 {
     let order = run.order;
     let start = states::start_of(order);
-    let next = candidates::next_candidate(map, run, words, heads, spells, shifts, 0, start, start);
+    let next = candidates::next_candidate(
+        map,
+        run,
+        words,
+        heads,
+        spells,
+        shifts,
+        hints,
+        0,
+        0,
+        0,
+        start,
+        start,
+    );
     labels::add_label(words, heads, spells, shifts, 0, start, 0, next);
     winners::enter(map, run, words, 0);
 }
@@ -283,17 +355,18 @@ fn search_in(
     heads: &mut [u32],
     spells: &mut [u32],
     shifts: &mut [u32],
+    hints: &mut [u32],
 ) -> Outcome
     requires { ⌜ Accepted (now map) run ⌝ }
-    requires { ⌜ (1 ≤ fit) × (fit ≤ mostLabels) × (labelWords * fit ≤ length (now words)) ⌝ }
+    requires { ⌜ (1 ≤ fit) × (fit ≤ mostLabels) × (labelWords * fit ≤ length (now words)) × (hintEntries ≤ length (now hints)) ⌝ }
     requires { ⌜ Lists (now words) (now heads) (now spells) (now shifts) 0 × (junctionsIn (tripIn (now map) run) < length (now heads)) ⌝ }
     ensures { λ r. ⌜ OutcomeSays (tripIn (now (map .entry)) run) fit (now (words .exit)) r ⌝ }
 {
-    begin(map, run, words, heads, spells, shifts);
+    begin(map, run, words, heads, spells, shifts, hints);
     if run.order.source == run.order.target {
         return Outcome::Found(1);
     }
-    settle_all(map, run, words, heads, spells, shifts, fit)
+    settle_all(map, run, words, heads, spells, shifts, hints, fit)
 }
 
 // With arrays for any map.
@@ -305,7 +378,17 @@ fn search_many(map: &[u8], run: Run, words: &mut [u32], fit: usize) -> Outcome
     let mut heads = [0u32; Sizes::JUNCTION_ENTRIES];
     let mut spells = [0u32; Sizes::JUNCTION_ENTRIES];
     let mut shifts = [0u32; Sizes::JUNCTION_ENTRIES];
-    search_in(map, run, words, fit, &mut heads, &mut spells, &mut shifts)
+    let mut hints = [0u32; candidates::HINT_ENTRIES];
+    search_in(
+        map,
+        run,
+        words,
+        fit,
+        &mut heads,
+        &mut spells,
+        &mut shifts,
+        &mut hints,
+    )
 }
 
 // With arrays for a small map.
@@ -318,7 +401,17 @@ fn search_few(map: &[u8], run: Run, words: &mut [u32], fit: usize) -> Outcome
     let mut heads = [0u32; FEW_ENTRIES];
     let mut spells = [0u32; FEW_ENTRIES];
     let mut shifts = [0u32; FEW_ENTRIES];
-    search_in(map, run, words, fit, &mut heads, &mut spells, &mut shifts)
+    let mut hints = [0u32; candidates::HINT_ENTRIES];
+    search_in(
+        map,
+        run,
+        words,
+        fit,
+        &mut heads,
+        &mut spells,
+        &mut shifts,
+        &mut hints,
+    )
 }
 
 // The same, with arrays by the map's size.

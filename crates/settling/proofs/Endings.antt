@@ -1,7 +1,7 @@
 -- The ends of the loop: the winner's candidate is at target, none is left, or no label fits; and the start at target.
 -- Assumes nothing.
-use mathlib.Core.Path.{_≡_, sym, ap, subst, _∙_}
-use mathlib.Core.List.{List, [], _∷_, _++_, List·Memᴰ}
+use mathlib.Core.Path.{_≡_, sym, ap, _∙_}
+use mathlib.Core.List.{List, [], _∷_, _++_}
 use mathlib.Core.Option.{Option, none, some}
 use Prim.Native.Nat.{ℕ, _+_, _<_}
 use native.Mathlib.Omega.{arith}
@@ -12,7 +12,6 @@ use Rattle.moves.specs.Trip.{Trip}
 use Rattle.moves.proofs.Rising.{SoundTrip}
 use Rattle.theory.specs.States.{Covered}
 use Rattle.theory.specs.Labels.{parent}
-use Rattle.theory.proofs.Lists.{at-mem}
 use Rattle.theory.proofs.Sorting.{le-self}
 use Rattle.theory.proofs.Settling.{lowest-settled}
 use Rattle.journeys.specs.Journeys.{startIn, atTarget, succs}
@@ -21,10 +20,10 @@ use Rattle.journeys.specs.Labels.{answerIn, labelsIn, labelCount, label, parent
 use Rattle.states.proofs.Compared.{rank-order, same-decides}
 use Rattle.journeys.proofs.Laws.{laws}
 use Rattle.journeys.proofs.Labels.{home-answer, home-labels}
-use Rattle.journeys.proofs.Endings.{SettledIn, parent-among, search-found, search-without, search-full}
+use Rattle.journeys.proofs.Endings.{parent-among, search-found, search-without, search-full}
 use Rattle.settling.specs.Settling.{stateAt, candidateOf, Parents, Searching, Winner, Ended}
 use Rattle.settling.proofs.Lists.{state-kept, state-new}
-use Rattle.settling.proofs.Winners.{start-in, label-in, won-above, won-lowest, won-top, grown-lowest, grown-parents}
+use Rattle.settling.proofs.Winners.{label-in, candidates-settled, won-above, won-lowest, won-top, grown-lowest, grown-parents}
 use Rattle.settling.proofs.Turns.{begin-parents}
 
 -- lists that are the labels and their parents, with the answer
@@ -54,17 +53,9 @@ module _ (trip : Trip) (sound : SoundTrip trip) (L : List State) (C P : List ℕ
   -- no candidate is left: there is no answer, and the labels are all settled
   pub exhausted : ((i : ℕ) → i < length L → getD C i 0 ≡ 0) → Ended trip none L P
   exhausted done =
+      let all-settled = candidates-settled trip sound L C P s none (λ i h has. absurd (omega (arith, done i h, has))) in
       let ends = search-without trip sound L (lowest-settled (laws trip sound) same-decides all-settled (s .rises) (s .tops)) (s .away) in
       ended trip none L P (ends .0) (ends .1) (s .parents)
-    where
-      all-settled : SettledIn trip L none
-      all-settled =
-          record {
-            has-start = start-in trip L C P s;
-            closed = λ l t ml mt k.
-                let g = at-mem (startIn trip) L ml in
-                s .pending (g .0) (g .1) .closed t (subst (λ (z : State). List·Memᴰ t (succs trip z)) (g .2) mt) (λ has. absurd (omega (arith, done (g .0) (g .1), has)));
-          }
 
   module _ (w : ℕ) (win : Winner trip L C w) where
     abbrev won : State

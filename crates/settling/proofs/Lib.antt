@@ -2,6 +2,7 @@
 -- Assumes nothing.
 pub mod Lists
 pub mod Pending
+pub mod Closing
 pub mod Winners
 pub mod Turns
 pub mod Endings

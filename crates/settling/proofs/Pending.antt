@@ -3,10 +3,11 @@
 use mathlib.Core.Path.{subst}
 use mathlib.Core.Bool.{not}
 use mathlib.Core.List.{List, [], _∷_, _++_, List·Memᴰ, Memᴰ·append-left}
-use mathlib.Core.Logic.{⊎-elim}
+use mathlib.Core.Logic.{inl, inr, ⊎-elim}
 use Prim.Native.Nat.{ℕ, _≤_}
 use native.Mathlib.Omega.{arith}
 use lib.Dec.{T}
+use lib.ListN.{length}
 use Rattle.booleans.proofs.Tests.{T-cases}
 use Rattle.states.specs.declared.State.{State}
 use Rattle.moves.specs.Trip.{Trip}
@@ -19,9 +20,9 @@ use Rattle.states.proofs.Compared.{rank-order, rank-clock}
 use Rattle.journeys.proofs.Journeys.{succs-in}
 use Rattle.journeys.proofs.Laws.{clock-rises, laws}
 use Rattle.candidates.specs.Candidates.{moveAt, resultAt, Names}
-use Rattle.candidates.specs.Next.{above, Passes}
+use Rattle.candidates.specs.Next.{above, Needless, Passes}
 use Rattle.settling.specs.Settling.{Pending}
-use Rattle.settling.proofs.Lists.{snoc-elim}
+use Rattle.settling.proofs.Lists.{snoc-elim, state-kept}
 
 -- what is covered stays so
 pub covered-wider : (L : List State) (c t : State) → Covered covers L t → Covered covers (L ++ c ∷ []) t
@@ -32,20 +33,25 @@ module _ (trip : Trip) where
   pub candidate-in : (s : State) (v : ℕ) → Names trip s v → List·Memᴰ (resultAt trip s v) (succs trip s)
   candidate-in s v names = succs-in trip s (moveAt trip s v) (names .offered) (names .lawful)
 
+  -- what needs no turn needs none when a label is added
+  pub needless-wider : (L : List State) (c : State) (before : ℕ) (t : State) → before ≤ length L → Needless trip L before t → Needless trip (L ++ c ∷ []) before t
+  needless-wider L c before t h (inl k) = inl (covered-wider L c t k)
+  needless-wider L c before t h (inr k) = inr (k .0, k .1, rw (state-kept trip L c (k .0) (omega (arith, k .1, h))) (k .2))
+
   -- one more label, which ranks no higher than the candidate
-  pub pending-wider : (L : List State) (c s : State) (v : ℕ) → (1 ≤ v → T (ranksNoHigher c (resultAt trip s v)))
-      → Pending trip L s v → Pending trip (L ++ c ∷ []) s v
-  pending-wider L c s v low p =
+  pub pending-wider : (L : List State) (before : ℕ) (c s : State) (v : ℕ) → before ≤ length L → (1 ≤ v → T (ranksNoHigher c (resultAt trip s v)))
+      → Pending trip L before s v → Pending trip (L ++ c ∷ []) before s v
+  pending-wider L before c s v h low p =
       record {
         named = p .named;
         above = λ has l m. snoc-elim (λ z. T (ranksNoHigher z (resultAt trip s v))) L c (p .above has) (low has) l m;
-        closed = λ t mt below. covered-wider L c t (p .closed t mt below);
+        closed = λ t mt below. needless-wider L c before t h (p .closed t mt below);
       }
 
   -- the candidate is covered, and the cursor moves on to the next
-  pub pending-next : (L : List State) (s : State) (k v : ℕ) → 1 ≤ k → Pending trip L s k → Covered covers L (resultAt trip s k)
-      → Passes trip L s (resultAt trip s k) v → Pending trip L s v
-  pending-next L s k v has p cov next =
+  pub pending-next : (L : List State) (before : ℕ) (s : State) (k v : ℕ) → 1 ≤ k → Pending trip L before s k → Covered covers L (resultAt trip s k)
+      → Passes trip L before s (resultAt trip s k) v → Pending trip L before s v
+  pending-next L before s k v has p cov next =
       record {
         named = next .named;
         above = λ on l m. rank-order .trans l c (resultAt trip s v) (p .above has l m) (le-of-not rank-order c (resultAt trip s v) (next .higher on));
@@ -53,7 +59,7 @@ module _ (trip : Trip) where
             ⊎-elim
             (λ (low : T (ranksNoHigher t c)).
             ⊎-elim
-            (λ (high : T (ranksNoHigher c t)). subst (λ (z : State). Covered covers L z) (rank-order .antisym c t high low) cov)
+            (λ (high : T (ranksNoHigher c t)). inl (subst (λ (z : State). Covered covers L z) (rank-order .antisym c t high low) cov))
             (λ (under : T (not (ranksNoHigher c t))). p .closed t mt (λ q. under))
             (T-cases (ranksNoHigher c t)))
             (λ (over : T (not (ranksNoHigher t c))). next .passed t mt over below)
@@ -72,9 +78,9 @@ module _ (trip : Trip) where
       (T-cases (ranksNoHigher t s))
 
   -- a label that no label ranks above gets its first cursor
-  pub pending-first : SoundTrip trip → (L : List State) (s : State) (v : ℕ) → ((l : State) → List·Memᴰ l L → T (ranksNoHigher l s))
-      → Passes trip L s s v → Pending trip L s v
-  pending-first sound L s v low next =
+  pub pending-first : SoundTrip trip → (L : List State) (before : ℕ) (s : State) (v : ℕ) → ((l : State) → List·Memᴰ l L → T (ranksNoHigher l s))
+      → Passes trip L before s s v → Pending trip L before s v
+  pending-first sound L before s v low next =
       record {
         named = next .named;
         above = λ has l m. rank-order .trans l s (resultAt trip s v) (low l m) (laws trip sound .rising s (resultAt trip s v) (candidate-in s v (next .named has)));

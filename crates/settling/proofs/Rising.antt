@@ -22,7 +22,7 @@ module _ (trip : Trip) (L : List State) (C P : List ℕ) (s : Searching trip L C
   won = candidateOf trip L C w
 
   -- after the winner's cursor has moved on
-  pub covered-later : (v : ℕ) → Passes trip L (stateAt trip L w) won v
+  pub covered-later : (v : ℕ) → Passes trip L w (stateAt trip L w) won v
       → (w′ : ℕ) → Winner trip L (set C w v) w′ → Later won w (candidateOf trip L (set C w v) w′) w′
   covered-later v next w′ win′ =
       set-elim C w v (λ i k. 1 ≤ k → Later won w (resultAt trip (stateAt trip L i) k) i) (omega (arith, s .as-many, win .within)) own w′ (other w′ (win′ .within)) (win′ .has)

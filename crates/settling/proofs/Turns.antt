@@ -36,7 +36,7 @@ module _ (trip : Trip) (sound : SoundTrip trip) where
   begin-parents = record { as-many = refl; root = refl; rest = λ i low h. absurd (omega arith); before = λ i low h. absurd (omega arith) }
 
   -- the start alone, which is not at target
-  pub begin : (v : ℕ) → ¬ T (atTarget trip (startIn trip)) → Passes trip (startIn trip ∷ []) (startIn trip) (startIn trip) v
+  pub begin : (v : ℕ) → ¬ T (atTarget trip (startIn trip)) → Passes trip (startIn trip ∷ []) 0 (startIn trip) (startIn trip) v
       → Searching trip (startIn trip ∷ []) (v ∷ []) (0 ∷ [])
   begin v away next =
       record {
@@ -50,15 +50,15 @@ module _ (trip : Trip) (sound : SoundTrip trip) where
         parents = begin-parents;
       }
     where
-      at : (i : ℕ) → i < 1 → Pending trip (startIn trip ∷ []) (stateAt trip (startIn trip ∷ []) i) (getD (v ∷ []) i 0)
+      at : (i : ℕ) → i < 1 → Pending trip (startIn trip ∷ []) i (stateAt trip (startIn trip ∷ []) i) (getD (v ∷ []) i 0)
       at zero h =
-          pending-first trip sound (startIn trip ∷ []) (startIn trip) v (one-elim (λ l. T (ranksNoHigher l (startIn trip))) (le-self rank-order (startIn trip))) next
+          pending-first trip sound (startIn trip ∷ []) 0 (startIn trip) v (one-elim (λ l. T (ranksNoHigher l (startIn trip))) (le-self rank-order (startIn trip))) next
       at (suc i) h = absurd (omega arith)
 
 module _ (trip : Trip) (L : List State) (C P : List ℕ) (s : Searching trip L C P) where
   -- a label's candidate is covered, and its cursor moves on
   pub advanced : (w v : ℕ) → w < length L → 1 ≤ getD C w 0 → Covered covers L (candidateOf trip L C w)
-      → Passes trip L (stateAt trip L w) (candidateOf trip L C w) v → Searching trip L (set C w v) P
+      → Passes trip L w (stateAt trip L w) (candidateOf trip L C w) v → Searching trip L (set C w v) P
   advanced w v h has cov next =
       record {
         some-label = s .some-label;
@@ -68,19 +68,19 @@ module _ (trip : Trip) (L : List State) (C P : List ℕ) (s : Searching trip L C
         away = s .away;
         as-many = length-set C w v ∙ s .as-many;
         pending = λ i k.
-            set-elim C w v (λ i u. Pending trip L (stateAt trip L i) u) (omega (arith, s .as-many, h))
-            (pending-next trip L (stateAt trip L w) (getD C w 0) v has (s .pending w h) cov next) i (λ other. s .pending i k);
+            set-elim C w v (λ i u. Pending trip L i (stateAt trip L i) u) (omega (arith, s .as-many, h))
+            (pending-next trip L w (stateAt trip L w) (getD C w 0) v has (s .pending w h) cov next) i (λ other. s .pending i k);
         parents = s .parents;
       }
 
 -- A turn whose candidate is covered: the winner's cursor moves on.
 pub turn-covered : (trip : Trip) (L : List State) (C P : List ℕ) → Searching trip L C P → (w : ℕ) → Winner trip L C w → (v : ℕ) → Covered covers L (candidateOf trip L C w)
-    → Passes trip L (stateAt trip L w) (candidateOf trip L C w) v → Searching trip L (set C w v) P
+    → Passes trip L w (stateAt trip L w) (candidateOf trip L C w) v → Searching trip L (set C w v) P
 turn-covered trip L C P s w win v cov next = advanced trip L C P s w v (win .within) (win .has) cov next
 
 -- A turn whose candidate is not covered and not at target: first it becomes the next label, with u as its cursor, then the winner's cursor moves on.
 module _ (trip : Trip) (sound : SoundTrip trip) (L : List State) (C P : List ℕ) (s : Searching trip L C P) (w : ℕ) (win : Winner trip L C w)
-    (u : ℕ) (next : Passes trip (L ++ candidateOf trip L C w ∷ []) (candidateOf trip L C w) (candidateOf trip L C w) u) where
+    (u : ℕ) (next : Passes trip (L ++ candidateOf trip L C w ∷ []) (length L) (candidateOf trip L C w) (candidateOf trip L C w) u) where
   abbrev won : State
   won = candidateOf trip L C w
 
@@ -118,20 +118,20 @@ module _ (trip : Trip) (sound : SoundTrip trip) (L : List State) (C P : List ℕ
           tops = low .tops;
           away = snoc-elim (λ l. ¬ T (atTarget trip l)) L won (s .away) out;
           as-many = omega (arith, length-append L (won ∷ []), length-append C (u ∷ []), s .as-many);
-          pending = snoc-at (λ i. Pending trip (L ++ won ∷ []) (stateAt trip (L ++ won ∷ []) i) (getD (C ++ u ∷ []) i 0)) L won old last;
+          pending = snoc-at (λ i. Pending trip (L ++ won ∷ []) i (stateAt trip (L ++ won ∷ []) i) (getD (C ++ u ∷ []) i 0)) L won old last;
           parents = grown-parents trip sound L C P s w win new;
         }
       where
         low : LowestIn trip (L ++ won ∷ []) (some won)
         low = grown-lowest trip sound L C P s w win new
 
-        old : (i : ℕ) → i < length L → Pending trip (L ++ won ∷ []) (stateAt trip (L ++ won ∷ []) i) (getD (C ++ u ∷ []) i 0)
+        old : (i : ℕ) → i < length L → Pending trip (L ++ won ∷ []) i (stateAt trip (L ++ won ∷ []) i) (getD (C ++ u ∷ []) i 0)
         old i h =
             rw (state-kept trip L won i h, cursor-kept trip L won C u (s .as-many) i h)
-            (pending-wider trip L won (stateAt trip L i) (getD C i 0) (win .least i h) (s .pending i h))
+            (pending-wider trip L i won (stateAt trip L i) (getD C i 0) (omega arith) (win .least i h) (s .pending i h))
 
-        last : Pending trip (L ++ won ∷ []) (stateAt trip (L ++ won ∷ []) (length L)) (getD (C ++ u ∷ []) (length L) 0)
+        last : Pending trip (L ++ won ∷ []) (length L) (stateAt trip (L ++ won ∷ []) (length L)) (getD (C ++ u ∷ []) (length L) 0)
         last =
             rw (state-new trip L won, cursor-new trip L won C u (s .as-many))
-            (pending-first trip sound (L ++ won ∷ []) won u
+            (pending-first trip sound (L ++ won ∷ []) (length L) won u
             (snoc-elim (λ l. T (ranksNoHigher l won)) L won (won-above trip L C P s w win) (le-self rank-order won)) next)

@@ -2,7 +2,7 @@
 -- the next in rank, and the winner is its parent. Assumes nothing.
 use mathlib.Core.Path.{_≡_, sym, ap, subst, _∙_}
 use mathlib.Core.List.{List, [], _∷_, _++_, List·Memᴰ, Memᴰ·append-left}
-use mathlib.Core.Option.{some}
+use mathlib.Core.Option.{Option, some}
 use Prim.Native.Nat.{ℕ, _+_, _≤_, _<_}
 use native.Mathlib.Omega.{arith}
 use lib.Dec.{T}
@@ -13,6 +13,7 @@ use Rattle.moves.specs.Trip.{Trip}
 use Rattle.moves.proofs.Rising.{SoundTrip}
 use Rattle.theory.specs.States.{step, Covered}
 use Rattle.theory.specs.Labels.{parent}
+use Rattle.theory.specs.Settling.{leo}
 use Rattle.theory.proofs.Lists.{mem-at, at-mem}
 use Rattle.theory.proofs.Sorting.{strictly, strict-snoc}
 use Rattle.theory.proofs.Settling.{below-leo, uncovered-new, next-undominated, lowest-settled}
@@ -26,6 +27,7 @@ use Rattle.journeys.proofs.Endings.{SettledIn, LowestIn}
 use Rattle.settling.specs.Settling.{stateAt, candidateOf, Parents, Searching, Winner}
 use Rattle.settling.proofs.Lists.{snoc-elim, snoc-at, state-kept, state-new}
 use Rattle.settling.proofs.Pending.{candidate-in}
+use Rattle.settling.proofs.Closing.{left-behind}
 
 -- the label at an index is a member
 pub label-in : (trip : Trip) (L : List State) (i : ℕ) → i < length L → List·Memᴰ (stateAt trip L i) L
@@ -47,20 +49,25 @@ module _ (trip : Trip) (L : List State) (C P : List ℕ) (s : Searching trip L C
     pub won-above : (l : State) → List·Memᴰ l L → T (ranksNoHigher l (candidateOf trip L C w))
     won-above = s .pending w (win .within) .above (win .has)
 
+-- what the labels lead to below all candidates is covered
+pub candidates-settled : (trip : Trip) → SoundTrip trip → (L : List State) (C P : List ℕ) → Searching trip L C P → (b : Option State)
+    → ((i : ℕ) → i < length L → 1 ≤ getD C i 0 → T (leo ranksNoHigher b (some (candidateOf trip L C i)))) → SettledIn trip L b
+candidates-settled trip sound L C P s b low =
+    record {
+      has-start = start-in trip L C P s;
+      closed = λ l t ml mt k.
+          let g = at-mem (startIn trip) L ml in
+          left-behind trip sound L C P s (g .0) (g .1) t (subst (λ (z : State). List·Memᴰ t (succs trip z)) (g .2) mt)
+          (λ j up has. below-leo (laws trip sound) b (some (candidateOf trip L C j)) t (low j (omega (arith, up, g .1)) has) k);
+    }
+
 module _ (trip : Trip) (sound : SoundTrip trip) (L : List State) (C P : List ℕ) (s : Searching trip L C P) (w : ℕ) (win : Winner trip L C w) where
   abbrev won : State
   won = candidateOf trip L C w
 
   -- what the labels lead to below it is covered
   pub won-settled : SettledIn trip L (some won)
-  won-settled =
-      record {
-        has-start = start-in trip L C P s;
-        closed = λ l t ml mt k.
-            let g = at-mem (startIn trip) L ml in
-            s .pending (g .0) (g .1) .closed t (subst (λ (z : State). List·Memᴰ t (succs trip z)) (g .2) mt)
-            (λ has. below-leo (laws trip sound) (some won) (some (candidateOf trip L C (g .0))) t (win .least (g .0) (g .1) has) k);
-      }
+  won-settled = candidates-settled trip sound L C P s (some won) (win .least)
 
   -- so the labels are the lowest undominated states, up to it
   pub won-lowest : LowestIn trip L (some won)
@@ -85,9 +92,9 @@ module _ (trip : Trip) (sound : SoundTrip trip) (L : List State) (C P : List ℕ
     won-parent =
         parent-is (succs trip) same-decides (startIn trip) L won w (win .within) (won-in trip L C P s w win)
         (λ j k q.
-        let h : j < length L = omega (arith, k, win .within) in
-        new (s .pending j h .closed won q
-        (λ has. strictly rank-order won (candidateOf trip L C j) (win .least j h has) (λ e. win .first j k has (sym e)))))
+        new (left-behind trip sound L C P s j (omega (arith, k, win .within)) won q
+        (λ i up has.
+        strictly rank-order won (candidateOf trip L C i) (win .least i (omega (arith, k, up, win .within)) has) (λ e. win .first i (omega (arith, k, up)) has (sym e)))))
 
     -- and the parents with it added are the definition's
     pub grown-parents : Parents trip (L ++ won ∷ []) (P ++ (w + 1) ∷ [])

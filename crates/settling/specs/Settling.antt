@@ -10,12 +10,13 @@ use lib.ListN.{length, getD}
 use Rattle.states.specs.declared.State.{State}
 use Rattle.moves.specs.Trip.{Trip}
 use Rattle.theory.specs.Lists.{StrictlySorted}
-use Rattle.theory.specs.States.{Covered, Undominated}
+use Rattle.theory.specs.States.{Undominated}
 use Rattle.theory.specs.Labels.{parent}
 use Rattle.journeys.specs.Journeys.{startIn, atTarget, succs}
 use Rattle.states.specs.States.{sameState, covers, ranksNoHigher}
 use Rattle.journeys.specs.Labels.{answerIn, labelsIn, labelCount, label, parentIn}
 use Rattle.candidates.specs.Candidates.{resultAt, Cursor}
+use Rattle.candidates.specs.Next.{Needless}
 
 -- the label at index i, counted from 0; beyond the last, the start
 abbrev pub stateAt : Trip → List State → ℕ → State
@@ -25,14 +26,14 @@ stateAt trip L i = getD L i (startIn trip)
 abbrev pub candidateOf : Trip → List State → List ℕ → ℕ → State
 candidateOf trip L C i = resultAt trip (stateAt trip L i) (getD C i 0)
 
--- what is left of a label's successors
-pub record Pending (trip : Trip) (L : List State) (s : State) (cursor : ℕ) : Type 0 where
+-- what is left of the successors of a label with so many before it
+pub record Pending (trip : Trip) (L : List State) (before : ℕ) (s : State) (cursor : ℕ) : Type 0 where
   -- the cursor is 0 or names a legal move
   pub named : Cursor trip s cursor
   -- no label ranks above the candidate
   pub above : 1 ≤ cursor → (l : State) → List·Memᴰ l L → T (ranksNoHigher l (resultAt trip s cursor))
-  -- a label covers each successor that ranks strictly below the candidate; each, if there is no candidate
-  pub closed : (t : State) → List·Memᴰ t (succs trip s) → (1 ≤ cursor → T (not (ranksNoHigher (resultAt trip s cursor) t))) → Covered covers L t
+  -- no successor that ranks strictly below the candidate needs a turn; none does, if there is no candidate
+  pub closed : (t : State) → List·Memᴰ t (succs trip s) → (1 ≤ cursor → T (not (ranksNoHigher (resultAt trip s cursor) t))) → Needless trip L before t
 
 -- the parents are the definition's
 pub record Parents (trip : Trip) (L : List State) (P : List ℕ) : Type 0 where
@@ -59,8 +60,8 @@ pub record Searching (trip : Trip) (L : List State) (C P : List ℕ) : Type 0 wh
   pub away : (l : State) → List·Memᴰ l L → ¬ T (atTarget trip l)
   -- each label has a cursor
   pub as-many : length C ≡ length L
-  -- which passes over nothing that is not covered
-  pub pending : (i : ℕ) → i < length L → Pending trip L (stateAt trip L i) (getD C i 0)
+  -- which passes over nothing that needs a turn
+  pub pending : (i : ℕ) → i < length L → Pending trip L i (stateAt trip L i) (getD C i 0)
   -- and a parent
   pub parents : Parents trip L P
 

@@ -1,4 +1,4 @@
--- The best stays but where the cursor names a legal move to a state above the bound that no label covers.
+-- The best stays but where the cursor names a legal move to a state above the bound that needs a turn.
 use mathlib.Core.Path.{_∙_, refl, sym, subst}
 use native.Mathlib.Omega.{arith}
 use borrow.Author.Needs.{needs}
@@ -10,38 +10,39 @@ use Rattle.moves.proofs.Trips.{run-tied}
 use Rattle.moves.proofs.Rising.{run-sound, range-after}
 use Rattle.candidates.specs.Candidates.{moveAt, Names}
 use Rattle.candidates.proofs.Results.{allowed-offers}
-use Rattle.candidates.proofs.Trials.{is-lower, some-best, later-higher, kept-unnamed, kept-low, kept-high, kept-covered, tried-joined, none-covers}
+use Rattle.candidates.proofs.Trials.{is-lower, some-best, later-higher, kept-unnamed, kept-low, kept-high, kept-covered, kept-forestalled, tried-joined, none-covers}
+use Rattle.candidates.proofs.Rivals.{worth-pause, forestalled-by}
 use Rattle.candidates.proofs.weigh.Statement.{statement}
 use Rattle.candidates.proofs.weigh.Tie as tie
 
 allowed-requires : tie.Need-allowed-requires
 allowed-requires c κs =
-    let s = c .before .before .before .before .before in
-    omega (arith, s .pre .1 .1 .1 .0 .high, run-tied (s .args .map .now) (s .args .run) .roads, s .pre .0 .sized .roads)
+    let s = c .before .before .before .before .before .before in
+    omega (arith, s .pre .1 .1 .1 .1 .0 .high, run-tied (s .args .map .now) (s .args .run) .roads, s .pre .0 .sized .roads)
 
 returns : tie.Need-returns
 returns c =
     let asked = c .before in
-    let s = asked .before .before .before .before .before .before in
+    let s = asked .before .before .before .before .before .before .before in
     let a = s .args in
-    kept-unnamed (s .pre .1 .1 .1 .1)
-    (λ named. not-both (allowed-offers (run-tied (a .map .now) (a .run)) (s .pre .0 .sized .roads) (s .pre .1 .1 .1 .0) ∙ named .offered) (sym (asked .allowed .ensures) ∙ not-true _ (c .if1 .taken)))
+    kept-unnamed (s .pre .1 .1 .1 .1 .1)
+    (λ named. not-both (allowed-offers (run-tied (a .map .now) (a .run)) (s .pre .0 .sized .roads) (s .pre .1 .1 .1 .1 .0) ∙ named .offered) (sym (asked .allowed .ensures) ∙ not-true _ (c .if1 .taken)))
 
 result-at-requires : tie.Need-result-at-requires
 result-at-requires c κs =
-    let s = c .before .before .before .before .before .before .before in
-    (s .pre .0, (s .pre .1 .0, (s .pre .1 .1 .1 .0 .low, s .pre .1 .1 .1 .0 .high)))
+    let s = c .before .before .before .before .before .before .before .before in
+    (s .pre .0, (s .pre .1 .0, (s .pre .1 .1 .1 .1 .0 .low, s .pre .1 .1 .1 .1 .0 .high)))
 
 -- from where the move's result is known to where the function starts
 abbrev start : tie.After-result-at → tie.Start
-start c = c .before .before .before .before .before .before .before .before
+start c = c .before .before .before .before .before .before .before .before .before
 
 returns-2 : tie.Need-returns-2
 returns-2 c =
     let led = c .before .before in
     let s = start led in
     let a = s .args in
-    kept-unnamed (s .pre .1 .1 .1 .1)
+    kept-unnamed (s .pre .1 .1 .1 .1 .1)
     (λ named. not-both (named .lawful) (rw (← led .result-at .ensures, run-tied (a .map .now) (a .run) .order) (sym (c .before .is-legal .ensures) ∙ not-true _ (c .if2 .taken))))
 
 -- the cursor names a legal move
@@ -54,7 +55,7 @@ named c =
     let s = start led in
     let a = s .args in
     let tied = run-tied (a .map .now) (a .run) in
-    let worth = s .pre .1 .1 .1 .0 in
+    let worth = s .pre .1 .1 .1 .1 .0 in
     record {
       low = worth .low;
       high = worth .high;
@@ -66,7 +67,7 @@ returns-3 : tie.Need-returns-3
 returns-3 c =
     let led = c .before .before .before .before in
     let s = start led in
-    kept-low (s .pre .1 .1 .1 .1) (rw (← led .result-at .ensures, ← c .before .ranks-no-higher .ensures) (c .if3 .taken))
+    kept-low (s .pre .1 .1 .1 .1 .1) (rw (← led .result-at .ensures, ← c .before .ranks-no-higher .ensures) (c .if3 .taken))
 
 returns-4 : tie.Need-returns-4
 returns-4 c =
@@ -75,7 +76,7 @@ returns-4 c =
     let s = start led in
     let a = s .args in
     let sound = run-sound (a .map .now) (a .run) (s .pre .0) in
-    let tried = s .pre .1 .1 .1 .1 in
+    let tried = s .pre .1 .1 .1 .1 .1 in
     let late = rw (led .result-at .ensures) at (c .if5 .taken) in
     kept-high tried (c .before .before .before .if4 .taken)
     (some-best sound (tried .found .held) (named legal) (omega arith))
@@ -95,26 +96,47 @@ returns-5 : tie.Need-returns-5
 returns-5 c =
     let led = c .before .before .before .before .before .before .before in
     let s = start led in
-    kept-covered (s .pre .1 .1 .1 .1) (rw (← led .result-at .ensures) (subst (Says _) (c .if6 .taken) (c .before .covered .ensures)))
+    kept-covered (s .pre .1 .1 .1 .1 .1) (rw (← led .result-at .ensures) (subst (Says _) (c .if6 .taken) (c .before .covered .ensures)))
 
-joined-requires : tie.Need-joined-requires
-joined-requires c κs =
-    let legal = c .before .before .before .before .before in
-    let led = legal .before .before in
-    let s = start led in
-    let found = s .pre .1 .1 .1 .1 .found in
-    ((s .pre .0, refl), (s .pre .1 .0, ((found .held, named legal), led .result-at .ensures)))
+forestalled-requires : tie.Need-forestalled-requires
+forestalled-requires c κs =
+    let legal = c .before .before .before .before .before .before in
+    let s = start (legal .before .before) in
+    let known = s .pre .1 .1 .1 .0 in
+    let lists = s .pre .1 .1 .0 .0 in
+    ((s .pre .0, sym (legal .before .is-legal .ensures) ∙ not-false _ (legal .if2 .left)), ((s .pre .1 .1 .0 .1, λ j h. lists .heads j h .same), ((known .1, omega (arith, lists .room, known .0), known .3), λ more some. worth-pause (s .pre .1 .1 .1 .1 .0) more (known .2 some))))
 
 returns-6 : tie.Need-returns-6
 returns-6 c =
-    let asked = c .before .before in
-    let ranked = asked .before .before .before in
+    let asked = c .before in
+    let led = asked .before .before .before .before .before .before .before .before .before in
+    let s = start led in
+    kept-forestalled (s .pre .1 .1 .1 .1 .1) (forestalled-by (s .pre .1 .1 .1 .0 .0) (rw (← led .result-at .ensures) (asked .forestalled .ensures (c .if7 .taken))))
+
+keep-hint-requires : tie.Need-keep-hint-requires
+keep-hint-requires c κs =
+    let led = c .before .before .before .before .before .before .before .before .before .before .before in
+    let s = start led in
+    (s .pre .1 .1 .1 .0 .3, s .pre .0 .sized .few-roads)
+
+joined-requires : tie.Need-joined-requires
+joined-requires c κs =
+    let legal = c .before .before .before .before .before .before .before .before .before .before .before .before in
+    let led = legal .before .before in
+    let s = start led in
+    let found = s .pre .1 .1 .1 .1 .1 .found in
+    ((s .pre .0, refl), (s .pre .1 .0, ((found .held, named legal), led .result-at .ensures)))
+
+returns-7 : tie.Need-returns-7
+returns-7 c =
+    let left = c .before .before .before .before .before .before .before .before in
+    let ranked = left .before .before .before .before in
     let legal = ranked .before in
     let led = legal .before .before in
     let s = start led in
-    tried-joined (s .pre .1 .1 .1 .1) (named legal)
-    (rw (← led .result-at .ensures) (is-lower _ _ (sym (ranked .ranks-no-higher .ensures) ∙ asked .before .before .if3 .left)))
-    (rw (← led .result-at .ensures) (subst (Says _) (c .before .if6 .left) (asked .covered .ensures)))
+    tried-joined (s .pre .1 .1 .1 .1 .1) (named legal)
+    (rw (← led .result-at .ensures) (is-lower _ _ (sym (ranked .ranks-no-higher .ensures) ∙ left .before .before .before .if3 .left)))
+    (rw (← led .result-at .ensures) (subst (Says _) (left .if6 .left) (left .before .covered .ensures)))
     (c .joined .ensures)
 
 pub weigh-spec : {M : Type 1} → statement M
@@ -131,5 +153,10 @@ weigh-spec =
     returns-4
     covered-requires
     returns-5
+    forestalled-requires
+    (λ c. search needs)
+    returns-6
+    keep-hint-requires
     joined-requires
-    returns-6)
+    (λ c. search needs)
+    returns-7)

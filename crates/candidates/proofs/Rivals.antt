@@ -1,0 +1,64 @@
+-- Moves of the labels before that forestall a successor: it needs no turn of its own. Assumes nothing.
+use mathlib.Core.Path.{_≡_, _∙_, sym, subst}
+use mathlib.Core.Bool.{true}
+use mathlib.Core.List.{List}
+use Prim.Native.Nat.{ℕ, _-_, _≤_, _<_}
+use native.Mathlib.Omega.{arith}
+use borrow.Author.Tests.{eq-eqb}
+use lib.Dec.{T}
+use Rattle.roadmap.specs.Format.{roadCount, roadFrom}
+use Rattle.theory.specs.States.{Covered}
+use Rattle.states.specs.declared.State.{State}
+use Rattle.states.specs.States.{legal, covers}
+use Rattle.states.proofs.Compared.{covers-legal}
+use Rattle.moves.specs.declared.Run.{Run}
+use Rattle.moves.specs.Trip.{Trip, roadsIn}
+use Rattle.moves.specs.Runs.{Tied}
+use Rattle.moves.proofs.Trips.{leaves-road}
+use Rattle.journeys.specs.Journeys.{startIn, succs}
+use Rattle.journeys.proofs.Journeys.{succs-in}
+use Rattle.labels.specs.LabelWords.{labelAt, settled}
+use Rattle.labels.proofs.LabelWords.{settled-at}
+use Rattle.candidates.specs.Candidates.{moveAt, resultAt}
+use Rattle.candidates.specs.Next.{Forestalled}
+use Rattle.candidates.specs.Trying.{Worth, allowed, Preceded}
+use Rattle.candidates.proofs.Results.{allowed-offers}
+
+-- a road is worth trying where it begins
+pub worth-road : {map : List ℕ} {run : Run} {trip : Trip} → Tied map run trip → {s : State} {r : ℕ} → 1 ≤ r → r ≤ roadCount map → s .junction ≡ roadFrom map r → Worth trip s r
+worth-road tied {s} {r} low high there =
+    record {
+      low = low;
+      high = omega (arith, tied .roads);
+      road = λ few. leaves-road tied (s .junction) r low high ∙ eq-eqb _ _ (sym there);
+      pause = λ more. absurd (omega (arith, tied .roads));
+    }
+
+-- and a pause for each label at the junction
+pub worth-pause : {trip : Trip} {s l : State} {cursor : ℕ} → Worth trip s cursor → roadsIn trip < cursor → l .junction ≡ s .junction → Worth trip l cursor
+worth-pause worth more there =
+    record { low = worth .low; high = worth .high; road = λ few. absurd (omega arith); pause = λ m. rw there (worth .pause m) }
+
+-- a label before leads to a state that covers a legal one: its move is legal too
+pub preceded : {map : List ℕ} {run : Run} {trip : Trip} → Tied map run trip → run .sizes .roads ≡ roadCount map → {ws : List ℕ} {k before cursor : ℕ} {t : State}
+    → 1 ≤ k → k ≤ before → Worth trip (labelAt ws k) cursor → allowed run (labelAt ws k) cursor ≡ true → legal (run .order) t ≡ true
+    → T (covers (resultAt trip (labelAt ws k) cursor) t) → Preceded trip ws before t
+preceded {run = run} {trip} tied sized {ws} {k} {cursor = cursor} {t} low high worth may lawful over =
+    record {
+      label = k;
+      low = low;
+      high = high;
+      covers = (
+        resultAt trip (labelAt ws k) cursor,
+        succs-in trip (labelAt ws k) (moveAt trip (labelAt ws k) cursor) (sym (allowed-offers tied sized worth) ∙ may) (covers-legal (trip .order) t _ over (rw (tied .order) lawful)),
+        over,
+      );
+    }
+
+-- it stands in the list of labels
+pub forestalled-by : {trip : Trip} {ws : List ℕ} {before n : ℕ} {t : State} → before ≤ n → Preceded trip ws before t → Forestalled trip (settled ws n) before t
+forestalled-by {trip} {ws} {n = n} {t} few P = (
+  P .label - 1,
+  omega (arith, P .low, P .high),
+  subst (λ (l : State). Covered covers (succs trip l) t) (sym (settled-at ws n (P .label) (startIn trip) (P .low) (omega (arith, P .high)))) (P .covers),
+)
