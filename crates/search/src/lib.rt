@@ -16,7 +16,7 @@ ghost use Rattle.winners.specs.Keys.{keyAt};
 ghost use Rattle.winners.specs.Mending.{Live, LeastKey};
 ghost use Rattle.search.specs.Underway.{Underway, Chosen, Onward};
 ghost use Rattle.search.specs.Turns.{TurnSays, OutcomeSays};
-ghost use Rattle.search.specs.Beginning.{Begun};
+ghost use Rattle.search.specs.Beginning.{fewEntries, Begun};
 ghost use Rattle.search.specs.Searched.{Searched};
 use labels::Candidate;
 use moves::Run;
@@ -395,7 +395,7 @@ fn search_many(map: &[u8], run: Run, words: &mut [u32], fit: usize) -> Outcome
 fn search_few(map: &[u8], run: Run, words: &mut [u32], fit: usize) -> Outcome
     requires { ⌜ Accepted (now map) run ⌝ }
     requires { ⌜ (1 ≤ fit) × (fit ≤ mostLabels) × (labelWords * fit ≤ length (now words)) ⌝ }
-    requires { ⌜ junctionsIn (tripIn (now map) run) < 1024 ⌝ }
+    requires { ⌜ junctionsIn (tripIn (now map) run) < fewEntries ⌝ }
     ensures { λ r. ⌜ OutcomeSays (tripIn (now (map .entry)) run) fit (now (words .exit)) r ⌝ }
 {
     let mut heads = [0u32; FEW_ENTRIES];
