@@ -1,7 +1,8 @@
 //! The maps that trips are timed on.
 
 use other::make::practice::{draw, practice_map, USUAL_START};
-use other::map::{Junction, Map, Road};
+use other::make::sketch::{closed_grid, Sketch};
+use other::map::Map;
 
 use crate::map_bytes::{junction_count, roads};
 
@@ -19,41 +20,31 @@ impl NamedMap {
     }
 }
 
+fn named(name: String, map: Map) -> NamedMap {
+    NamedMap {
+        name,
+        bytes: map.bytes(),
+    }
+}
+
 /// The practice map of document 02 (P14) and its usual start.
 pub fn practice(junctions: u64) -> NamedMap {
-    NamedMap {
-        name: format!("practice {junctions}"),
-        bytes: practice_map(junctions, USUAL_START).bytes(),
-    }
+    let map = practice_map(junctions, USUAL_START);
+    named(format!("practice {junctions}"), map)
 }
 
 /// A grid whose roads have 1 to 20,000 metres.
 pub fn grid(side: u64) -> NamedMap {
     let mut state = USUAL_START;
-    let name = format!("grid {side} × {side}");
-    closed_grid(name, side, || 1 + draw(&mut state) % 20_000)
+    let map = closed_grid(side, || 1 + draw(&mut state) % 20_000);
+    named(format!("grid {side} × {side}"), map)
 }
 
 /// A grid whose roads all take 450 seconds, so that many labels have the same clock and only the
 /// other figures rank them.
 pub fn uniform_grid(side: u64) -> NamedMap {
-    closed_grid(format!("uniform grid {side} × {side}"), side, || 10_000)
-}
-
-/// Junctions in rows and columns that close round, each with a road to its four neighbours. Every
-/// fourth junction of a row or column is a car park.
-fn closed_grid(name: String, side: u64, mut metres: impl FnMut() -> u64) -> NamedMap {
-    let mut sketch = Sketch::default();
-    for row in 0..side {
-        for column in 0..side {
-            let from = sketch.junction((row + column) % 4 == 0);
-            for (down, right) in [(0, 1), (1, 0), (0, side - 1), (side - 1, 0)] {
-                let to = 1 + (row + down) % side * side + (column + right) % side;
-                sketch.road(from, to, metres());
-            }
-        }
-    }
-    sketch.named(name)
+    let map = closed_grid(side, || 10_000);
+    named(format!("uniform grid {side} × {side}"), map)
 }
 
 /// A spine with a tooth at each junction, which ends in a car park and is longer than the tooth
@@ -72,7 +63,7 @@ pub fn comb(teeth: u64, apart: u64, step: u64) -> NamedMap {
             sketch.road(spine, tooth + 1, apart);
         }
     }
-    sketch.named(format!("comb {teeth}"))
+    named(format!("comb {teeth}"), sketch.map())
 }
 
 /// Some hundred and fifty labels at a junction.
@@ -105,50 +96,5 @@ pub fn hubs(degree: u64, leaves: u64) -> NamedMap {
             sketch.road(leaf, hub % hubs + 1, metres());
         }
     }
-    sketch.named(format!("hubs of degree {degree}"))
-}
-
-/// A map that is put together junction by junction and road by road.
-struct Sketch(Map);
-
-impl Default for Sketch {
-    fn default() -> Sketch {
-        Sketch(Map {
-            junctions: Vec::new(),
-            roads: Vec::new(),
-            names: b"G".to_vec(),
-        })
-    }
-}
-
-impl Sketch {
-    /// Adds a junction and gives its number.
-    fn junction(&mut self, is_car_park: bool) -> u64 {
-        self.0.junctions.push(Junction {
-            first: 0,
-            car_park: u64::from(is_car_park),
-            name_start: 0,
-            name_length: 1,
-        });
-        self.0.junctions.len() as u64
-    }
-
-    /// Adds a road at 80 km per hour; its ends may be added later.
-    fn road(&mut self, from: u64, to: u64, metres: u64) {
-        self.0.roads.push(Road {
-            from,
-            to,
-            metres,
-            speed: 80,
-            next: 0,
-        });
-    }
-
-    fn named(mut self, name: String) -> NamedMap {
-        self.0.link_chains();
-        NamedMap {
-            name,
-            bytes: self.0.bytes(),
-        }
-    }
+    named(format!("hubs of degree {degree}"), sketch.map())
 }

@@ -1,6 +1,7 @@
 //! Two implementations held against each other on the same calls.
 
 use crate::case_probes::probes;
+use crate::equal_clocks;
 use crate::laws::obeyed;
 use crate::lettering;
 use crate::make::random::Random;
@@ -31,7 +32,12 @@ pub fn compare(
 }
 
 fn compare_special(trusted: &Operations, tried: &Operations) -> Result<u64, Difference> {
-    let calls = [special::probes(), lettering::probes()].concat();
+    let calls = [
+        special::probes(),
+        lettering::probes(),
+        equal_clocks::probes(),
+    ]
+    .concat();
     for probe in &calls {
         compare_probe(trusted, tried, probe).map_err(|text| Difference { case: 0, text })?;
     }

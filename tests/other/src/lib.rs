@@ -3,6 +3,7 @@
 pub mod case_probes;
 pub mod chains;
 pub mod compare;
+pub mod equal_clocks;
 pub mod laws;
 pub mod lent;
 pub mod lettering;

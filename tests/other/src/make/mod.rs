@@ -7,6 +7,7 @@ pub mod pairs;
 pub mod practice;
 pub mod random;
 pub mod sheets;
+pub mod sketch;
 pub mod ties;
 pub mod traces;
 

@@ -4,6 +4,7 @@ use std::collections::BTreeSet;
 
 use crate::case_probes::ample_plan;
 use crate::compare::marks;
+use crate::equal_clocks;
 use crate::laws::obeyed;
 use crate::lettering;
 use crate::make::practice::{draw, practice_map, USUAL_START};
@@ -13,7 +14,7 @@ use crate::moves::{Document, State, Trip};
 use crate::operations::DOCUMENT;
 use crate::planning::{reachable_states, undominated};
 use crate::probe::{answer, Probe};
-use crate::reply::{Reply, BAD_JUNCTION, BAD_LETTERING};
+use crate::reply::{Reply, BAD_JUNCTION, BAD_LETTERING, NO_ROAD};
 use crate::sheet::sheet_bytes;
 use crate::special;
 use crate::words::word;
@@ -195,4 +196,27 @@ pub fn letterings_have_a_bad_byte_at_every_place() {
     for place in lettering::LONG - 20..lettering::LONG {
         assert!(found.contains(&(lettering::LONG, BAD_LETTERING, Some(place as u64))));
     }
+}
+
+/// Number and arrival of each, rested and tired, without a split and with one. There are no more than
+/// 17 clocks for the labels to have, since pauses take as long as some roads.
+pub fn equal_clocks_have_the_replies_meant() {
+    const TOO_FAR: (u64, u64) = (NO_ROAD, 0);
+    let either_way = |rested, tired| [rested, tired, rested, tired];
+    let expected = [
+        either_way((0, 8 * 450), (0, (8 + 6) * 450)),
+        either_way((0, 16 * 450), TOO_FAR),
+        either_way((0, 9 * 450), (0, (9 + 6) * 450)),
+        either_way(TOO_FAR, TOO_FAR),
+    ];
+    let replies: Vec<Reply> = equal_clocks::probes()
+        .iter()
+        .map(|probe| answer(&DOCUMENT, probe).reply)
+        .collect();
+    let told: Vec<(u64, u64)> = replies
+        .iter()
+        .map(|reply| (reply.number, reply.arrival))
+        .collect();
+    assert_eq!(told, expected.concat());
+    assert!(replies.iter().all(|reply| reply.place > 100));
 }

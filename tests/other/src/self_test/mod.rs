@@ -82,6 +82,7 @@ pub fn tests() -> Vec<Test> {
         making::laws_notice_wrong_copies,
         making::special_calls_have_the_replies_meant,
         making::letterings_have_a_bad_byte_at_every_place,
+        making::equal_clocks_have_the_replies_meant,
     ]
 }
 

@@ -1,0 +1,53 @@
+//! Trips on a grid whose roads all take the same time, so that a junction is reached from several sides at one clock. It
+//! has more junctions than the library's small arrays have entries, and so near a latest that few states are reachable.
+
+use crate::make::sketch::closed_grid;
+use crate::make::Run;
+use crate::order::{Order, RuleWords, EUROPEAN_RULES};
+use crate::planning::WORDS_OF_A_LABEL;
+use crate::probe::Probe;
+use crate::sheet::sheet_bytes;
+
+const SIDE: u64 = 40;
+const METRES: u64 = 10_000;
+const ROAD_SECONDS: u64 = 450;
+const MOST_ROADS_DRIVEN: u64 = 16;
+const AMPLE_LABELS: usize = 3_000;
+
+/// Row and column of the targets: near; reached at the latest second; round the edge; too far.
+const TARGETS: [(u64, u64); 4] = [(3, 5), (8, 8), (35, 36), (20, 20)];
+
+/// A break takes as long as six roads, its parts as long as two and four.
+const NO_SPLIT: RuleWords = [16_200, 2_700, 32_400, 39_600, 0, 0];
+
+/// The spell that leaves five roads before a break.
+const TIRED: u64 = 16_200 - 5 * ROAD_SECONDS;
+
+pub fn probes() -> Vec<Probe> {
+    let map = closed_grid(SIDE, || METRES).bytes();
+    let plan = |order: Order| Probe::Plan {
+        run: Run {
+            map: map.clone(),
+            order: order.bytes(),
+        },
+        labels: vec![0xA5A5_A5A5; WORDS_OF_A_LABEL * AMPLE_LABELS],
+        sheet: vec![0xEE; sheet_bytes(MOST_ROADS_DRIVEN as usize)],
+    };
+    orders().into_iter().map(plan).collect()
+}
+
+/// To each target, with a split and without, rested and after some hours.
+fn orders() -> Vec<Order> {
+    let mut orders = Vec::new();
+    for (row, column) in TARGETS {
+        for rules in [NO_SPLIT, EUROPEAN_RULES] {
+            orders.extend([0, TIRED].map(|driven| Order {
+                source: 1,
+                target: 1 + row * SIDE + column,
+                latest: MOST_ROADS_DRIVEN * ROAD_SECONDS,
+                ..Order::of_hours(rules, [driven, driven])
+            }));
+        }
+    }
+    orders
+}
