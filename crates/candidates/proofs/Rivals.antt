@@ -1,11 +1,13 @@
--- Moves of the labels before that forestall a successor: it needs no turn of its own. Assumes nothing.
+-- Moves of the labels before that forestall a successor: it needs no turn of its own, and never will. Assumes nothing.
 use mathlib.Core.Path.{_≡_, _∙_, sym, subst}
 use mathlib.Core.Bool.{true}
 use mathlib.Core.List.{List}
+use mathlib.Core.Logic.{inl, inr}
 use Prim.Native.Nat.{ℕ, _-_, _≤_, _<_}
 use native.Mathlib.Omega.{arith}
 use borrow.Author.Tests.{eq-eqb}
 use lib.Dec.{T}
+use lib.ListN.{getD}
 use Rattle.roadmap.specs.Format.{roadCount, roadFrom}
 use Rattle.theory.specs.States.{Covered}
 use Rattle.states.specs.declared.State.{State}
@@ -20,7 +22,7 @@ use Rattle.journeys.proofs.Journeys.{succs-in}
 use Rattle.labels.specs.LabelWords.{labelAt, settled}
 use Rattle.labels.proofs.LabelWords.{settled-at}
 use Rattle.candidates.specs.Candidates.{moveAt, resultAt}
-use Rattle.candidates.specs.Next.{Forestalled}
+use Rattle.candidates.specs.Next.{Forestalled, Needless}
 use Rattle.candidates.specs.Trying.{Worth, allowed, Preceded}
 use Rattle.candidates.proofs.Results.{allowed-offers}
 
@@ -62,3 +64,10 @@ forestalled-by {trip} {ws} {n = n} {t} few P = (
   omega (arith, P .low, P .high),
   subst (λ (l : State). Covered covers (succs trip l) t) (sym (settled-at ws n (P .label) (startIn trip) (P .low) (omega (arith, P .high)))) (P .covers),
 )
+
+-- what needs no turn needs none among more labels, where those before are the same
+pub needless-kept : (trip : Trip) (L L′ : List State) (before : ℕ) (t : State) → (Covered covers L t → Covered covers L′ t)
+    → ((i : ℕ) → i < before → getD L′ i (startIn trip) ≡ getD L i (startIn trip)) → Needless trip L before t → Needless trip L′ before t
+needless-kept trip L L′ before t more same (inl C) = inl (more C)
+needless-kept trip L L′ before t more same (inr F) =
+    inr (F .0, F .1, subst (λ (s : State). Covered covers (succs trip s) t) (sym (same (F .0) (F .1))) (F .2))

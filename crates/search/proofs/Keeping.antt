@@ -2,7 +2,6 @@
 use mathlib.Core.Path.{_≡_, _∙_, sym, ap, ap₂, subst, subst₂}
 use mathlib.Core.Bool.{false}
 use mathlib.Core.List.{List, List·Memᴰ}
-use mathlib.Core.Logic.{inl, inr}
 use Prim.Native.Nat.{ℕ, _+_, _-_, _≤_, _<_}
 use native.Mathlib.Omega.{arith}
 use native.Mathlib.Nat.{le-refl}
@@ -21,6 +20,7 @@ use Rattle.labels.proofs.Lists.{covered-by}
 use Rattle.candidates.specs.Candidates.{resultAt}
 use Rattle.candidates.specs.Next.{above, Needless, Spent, NextIs}
 use Rattle.candidates.specs.Trying.{Stands, Ranged}
+use Rattle.candidates.proofs.Rivals.{needless-kept}
 use Rattle.winners.specs.Keys.{candidate, OnlyWinners}
 use Rattle.winners.specs.Mending.{Advanced}
 use Rattle.winners.proofs.Keys.{same-cursor, only-label, only-candidate}
@@ -36,10 +36,8 @@ covered-more ws m n t h C =
 
 -- and what needs no turn needs none
 needless-more : (trip : Trip) (ws : List ℕ) (m n before : ℕ) (t : State) → m ≤ n → before ≤ m → Needless trip (settled ws m) before t → Needless trip (settled ws n) before t
-needless-more trip ws m n before t h b (inl C) = inl (covered-more ws m n t h C)
-needless-more trip ws m n before t h b (inr F) =
-    let same = state-next trip ws m (F .0) (omega (arith, F .1)) ∙ sym (state-next trip ws n (F .0) (omega (arith, F .1))) in
-    inr (F .0, F .1, subst (λ (s : State). Covered covers (succs trip s) t) same (F .2))
+needless-more trip ws m n before t h b =
+    needless-kept trip (settled ws m) (settled ws n) before t (covered-more ws m n t h) (λ i k. state-next trip ws n i (omega arith) ∙ sym (state-next trip ws m i (omega arith)))
 
 module _ (trip : Trip) (ws : List ℕ) where
   -- a candidate that was just looked for, above some bound, among labels 1 to m

@@ -3,7 +3,7 @@
 use mathlib.Core.Path.{subst}
 use mathlib.Core.Bool.{not}
 use mathlib.Core.List.{List, [], _∷_, _++_, List·Memᴰ, Memᴰ·append-left}
-use mathlib.Core.Logic.{inl, inr, ⊎-elim}
+use mathlib.Core.Logic.{inl, ⊎-elim}
 use Prim.Native.Nat.{ℕ, _≤_}
 use native.Mathlib.Omega.{arith}
 use lib.Dec.{T}
@@ -21,6 +21,7 @@ use Rattle.journeys.proofs.Journeys.{succs-in}
 use Rattle.journeys.proofs.Laws.{clock-rises, laws}
 use Rattle.candidates.specs.Candidates.{moveAt, resultAt, Names}
 use Rattle.candidates.specs.Next.{above, Needless, Passes}
+use Rattle.candidates.proofs.Rivals.{needless-kept}
 use Rattle.settling.specs.Settling.{Pending}
 use Rattle.settling.proofs.Lists.{snoc-elim, state-kept}
 
@@ -35,8 +36,7 @@ module _ (trip : Trip) where
 
   -- what needs no turn needs none when a label is added
   pub needless-wider : (L : List State) (c : State) (before : ℕ) (t : State) → before ≤ length L → Needless trip L before t → Needless trip (L ++ c ∷ []) before t
-  needless-wider L c before t h (inl k) = inl (covered-wider L c t k)
-  needless-wider L c before t h (inr k) = inr (k .0, k .1, rw (state-kept trip L c (k .0) (omega (arith, k .1, h))) (k .2))
+  needless-wider L c before t h = needless-kept trip L (L ++ c ∷ []) before t (covered-wider L c t) (λ i k. state-kept trip L c i (omega arith))
 
   -- one more label, which ranks no higher than the candidate
   pub pending-wider : (L : List State) (before : ℕ) (c s : State) (v : ℕ) → before ≤ length L → (1 ≤ v → T (ranksNoHigher c (resultAt trip s v)))
