@@ -17,11 +17,14 @@ const AMPLE_LABELS: usize = 3_000;
 /// Row and column of the targets: near; reached at the latest second; round the edge; too far.
 const TARGETS: [(u64, u64); 4] = [(3, 5), (8, 8), (35, 36), (20, 20)];
 
-/// A break takes as long as six roads, its parts as long as two and four.
-const NO_SPLIT: RuleWords = [16_200, 2_700, 32_400, 39_600, 0, 0];
+/// A break takes as long as six roads; with a split, its parts take as long as two and four.
+const NO_SPLIT: RuleWords = {
+    let [spell_limit, break_time, shift_limit, rest_time, _, _] = EUROPEAN_RULES;
+    [spell_limit, break_time, shift_limit, rest_time, 0, 0]
+};
 
 /// The spell that leaves five roads before a break.
-const TIRED: u64 = 16_200 - 5 * ROAD_SECONDS;
+const TIRED: u64 = EUROPEAN_RULES[0] - 5 * ROAD_SECONDS;
 
 pub fn probes() -> Vec<Probe> {
     let map = closed_grid(SIDE, || METRES).bytes();
