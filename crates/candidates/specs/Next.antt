@@ -1,4 +1,4 @@
--- The next candidate of a label: its lowest-ranked successor above a bound that needs a turn. Assumes nothing.
+-- The next candidate of a label: a successor above a bound, below which none needs a turn. Assumes nothing.
 use mathlib.Core.Path.{_≡_}
 use mathlib.Core.Bool.{Bool, false, not}
 use mathlib.Core.List.{List, List·Memᴰ}

@@ -404,8 +404,8 @@ fn following(map: &[u8], run: Run, state: State, cursor: u32) -> u32
     cursor + 1
 }
 
-// The lowest-ranked successor above the bound that needs a turn, if there is one. So many labels stand
-// before this one, and `last` is the last of them at its junction, or 0.
+// The lowest-ranked successor above the bound that is not seen to need no turn, if there is one. So many
+// labels stand before this one, and `last` is the last of them at its junction, or 0.
 pub fn next_candidate(
     map: &[u8],
     run: Run,

@@ -38,7 +38,7 @@ const LARGEST_WORD: u32 = 4294967295;
 const JUNCTION_BASE: u32 = 16384;
 
 // A label's candidate: the cursor that names it, 0 for none; its junction and its clock; whether
-// successors above it may be left that no label covers.
+// successors above it may be left that need a turn of their own.
 pub struct Candidate {
     pub cursor: u32,
     pub junction: u32,
