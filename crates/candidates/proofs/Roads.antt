@@ -9,11 +9,10 @@ use native.Mathlib.Omega.{arith}
 use borrow.Author.Tests.{eqb-true, eq-eqb, ltb-true, ltb-false}
 use lib.Dec.{ltb}
 use Rattle.booleans.proofs.Tests.{cases, not-both, and-true}
-use Rattle.replies.proofs.First.{lowest-is-none, none-under}
 use Rattle.roadmap.specs.Format.{roadCount, firstRoad, nextRoad, roadFrom}
-use Rattle.mapcheck.specs.MapCheck.{mapTests, AcceptedMap}
-use Rattle.mapcheck.proofs.Listed.{MapMade, map-made, LowestFrom, lowest-from}
-use Rattle.mapcheck.proofs.Sound.{links-of}
+use Rattle.mapcheck.specs.MapCheck.{AcceptedMap}
+use Rattle.mapcheck.proofs.Listed.{LowestFrom, lowest-from}
+use Rattle.mapcheck.proofs.Sound.{accepted-made}
 use Rattle.driving.specs.Hours.{lastPause}
 use Rattle.states.specs.declared.State.{State}
 use Rattle.moves.specs.declared.Run.{Run}
@@ -41,11 +40,6 @@ at-end last (suc k) low = absurd (omega arith)
 pub nearer : (last r next : ℕ) → 1 ≤ r → r ≤ last → Before next r → last + 1 - upTo last next < last + 1 - upTo last r
 nearer last r zero low high rises = rw (at-road last r low) (omega arith)
 nearer last r (suc k) low high rises = rw (at-road last r low) (omega (arith, rises (omega arith)))
-
--- an accepted map's links are to the lowest roads
-pub accepted-made : (map : List ℕ) → AcceptedMap map → MapMade map
-accepted-made map accepted =
-    map-made map (links-of map (none-under 5 (mapTests map) accepted) (none-under 6 (mapTests map) accepted)) (lowest-is-none _ 1 _ (none-under 7 (mapTests map) accepted))
 
 next-lowest : (map : List ℕ) → AcceptedMap map → (r : ℕ) → 1 ≤ r → r ≤ roadCount map → LowestFrom (roadFrom map) (roadFrom map r) (r + 1) (roadCount map - r) (nextRoad map r)
 next-lowest map accepted r low high =

@@ -8,3 +8,4 @@ pub mod Due
 pub mod Listed
 pub mod Sound
 pub mod Tried
+pub mod Kept

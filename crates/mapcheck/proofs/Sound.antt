@@ -19,7 +19,7 @@ use Rattle.mapcheck.specs.Links.{MapLinks}
 use Rattle.mapcheck.specs.Listed.{roadsFrom}
 use Rattle.mapcheck.specs.MapCheck.{badJunctionAt, badJunction, badNext, badRoadAt, badRoad, oversize, mapTests, AcceptedMap}
 use Rattle.mapcheck.proofs.Counts.{Within, within, CountsInRange, in-range}
-use Rattle.mapcheck.proofs.Listed.{map-listed}
+use Rattle.mapcheck.proofs.Listed.{MapMade, map-listed, map-made}
 use Rattle.mapcheck.proofs.Tried.{has-whole, accepted-sizes}
 
 module _ (map : List ℕ) where
@@ -114,3 +114,9 @@ module _ (map : List ℕ) where
         links = linked;
         chains = map-listed map linked (lowest-is-none _ 1 _ (none-under 7 (mapTests map) accepted));
       }
+
+  -- its chains are made of the lowest roads
+  pub accepted-made : AcceptedMap map → MapMade map
+  accepted-made accepted =
+      map-made map (links-of (none-under 5 (mapTests map) accepted) (none-under 6 (mapTests map) accepted))
+      (lowest-is-none _ 1 _ (none-under 7 (mapTests map) accepted))

@@ -12,13 +12,14 @@ use Rattle.booleans.proofs.Tests.{cases, not-both, and-true}
 use Rattle.roadmap.specs.Format.{roadCount, firstRoad, nextRoad, roadFrom}
 use Rattle.mapcheck.specs.MapCheck.{AcceptedMap}
 use Rattle.mapcheck.proofs.Listed.{LowestFrom, lowest-from}
+use Rattle.mapcheck.proofs.Sound.{accepted-made}
 use Rattle.states.specs.declared.State.{State}
 use Rattle.moves.specs.declared.Run.{Run}
 use Rattle.moves.specs.Trip.{Trip}
 use Rattle.moves.specs.Moves.{move}
 use Rattle.moves.specs.Runs.{Tied, RangeIn}
 use Rattle.journeys.specs.Plan.{movesTo}
-use Rattle.candidates.proofs.Roads.{upTo, at-road, at-end, accepted-made}
+use Rattle.candidates.proofs.Roads.{upTo, at-road, at-end}
 use Rattle.readback.specs.Moving.{Takes, RoadTo, passesBy}
 use Rattle.readback.proofs.Leading.{road-offered, offered-road}
 
