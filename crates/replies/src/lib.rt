@@ -30,9 +30,10 @@ pub enum Refusal {
     TornTrace(usize),
     OddRecord(usize),
     PastLimit(usize),
+    UnknownRoad(usize),
 }
 
-// Map check, order check and chain making.
+// Map check, order check, chain making and striking.
 pub enum Check {
     Passed,
     Refused(Refusal),
@@ -50,7 +51,7 @@ pub enum Timing {
     Refused(Refusal),
 }
 
-// Planning.
+// Planning and the preview.
 pub enum Planning {
     Planned { labels: u32, arrival: Clock },
     Refused(Refusal),
@@ -106,6 +107,7 @@ fn refusal_reply(why: Refusal) -> Reply
         Refusal::TornTrace(place) => refused_at(21, place),
         Refusal::OddRecord(place) => refused_at(22, place),
         Refusal::PastLimit(place) => refused_at(23, place),
+        Refusal::UnknownRoad(place) => refused_at(24, place),
     }
 }
 

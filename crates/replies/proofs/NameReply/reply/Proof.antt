@@ -1,4 +1,4 @@
-use mathlib.Core.Path.{sym, ap}
+use mathlib.Core.Path.{_∙_, sym, ap}
 use borrow.Author.Needs.{needs}
 use Rattle.replies.specs.Told.{toldName}
 use Rattle.replies.proofs.NameReply.reply.Statement.{statement}
@@ -7,6 +7,9 @@ use Rattle.replies.proofs.NameReply.reply.Tie as tie
 returns : tie.Need-returns
 returns c = sym (ap toldName (c .before .self .given .1))
 
+returns-2 : tie.Need-returns-2
+returns-2 c = c .refusal-reply .ensures ∙ sym (ap toldName (c .before .before .self2 .given .1))
+
 pub reply-spec : {M : Type 1} → statement M
 reply-spec =
-    tie.close (tie.spec (λ c. search needs) (λ c. search needs) (λ c κs. search needs) returns (λ c. search needs))
+    tie.close (tie.spec (λ c. search needs) (λ c. search needs) (λ c κs. search needs) returns returns-2)

@@ -1,4 +1,4 @@
-use mathlib.Core.Path.{sym, ap}
+use mathlib.Core.Path.{_∙_, sym, ap}
 use borrow.Author.Needs.{needs}
 use Rattle.replies.specs.Told.{toldPlan}
 use Rattle.replies.proofs.Planning.reply.Statement.{statement}
@@ -7,7 +7,10 @@ use Rattle.replies.proofs.Planning.reply.Tie as tie
 returns : tie.Need-returns
 returns c = sym (ap toldPlan (c .before .self .given .1))
 
+returns-2 : tie.Need-returns-2
+returns-2 c = c .refusal-reply .ensures ∙ sym (ap toldPlan (c .before .before .self2 .given .1))
+
 pub reply-spec : {M : Type 1} → statement M
 reply-spec =
     tie.close
-    (tie.spec (λ c. search needs) (λ c. search needs) (λ c. search needs) (λ c κs. search needs) returns (λ c. search needs))
+    (tie.spec (λ c. search needs) (λ c. search needs) (λ c. search needs) (λ c κs. search needs) returns returns-2)
