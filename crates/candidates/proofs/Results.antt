@@ -16,7 +16,7 @@ use Rattle.driving.specs.Hours.{firstPause, lastPause, allowsPause, drivenOn, c
 use Rattle.driving.specs.declared.Figures.{Figures}
 use Rattle.states.specs.declared.State.{State}
 use Rattle.moves.specs.declared.Run.{Run}
-use Rattle.moves.specs.Trip.{Trip, stretchOf, roadsIn, parkIn}
+use Rattle.moves.specs.Trip.{Trip, roadIn, roadsIn, parkIn}
 use Rattle.moves.specs.Moves.{move, leaves, offers, driven, paused, after}
 use Rattle.moves.specs.Runs.{Tied}
 use Rattle.candidates.specs.Candidates.{moveAt, resultAt, candidateClock, noClock, candidateJunction}
@@ -88,9 +88,9 @@ pub record DriveTime (from clock seconds : ℕ) : Type 0 where
   pub few : seconds ≤ 1440000
 
 module _ {map : List ℕ} {run : Run} {trip : Trip} (tied : Tied map run trip) (s : State) (cursor : ℕ) where
-  pub result-drive : 1 ≤ cursor → cursor ≤ roadCount map → driven (stretchOf map cursor) s ≡ resultAt trip s cursor
+  pub result-drive : cursor ≤ roadCount map → driven (roadIn trip cursor) s ≡ resultAt trip s cursor
   unfolding after
-  result-drive low high = rw (move-drive trip s cursor (rw (tied .roads) high), tied .road cursor low high)
+  result-drive high = rw (move-drive trip s cursor (rw (tied .roads) high))
 
   pub result-pause : roadCount map < cursor → paused (cursor - roadCount map + 1) (run .order .rules) s ≡ resultAt trip s cursor
   unfolding after
@@ -99,17 +99,17 @@ module _ {map : List ℕ} {run : Run} {trip : Trip} (tied : Tied map run trip) (
 
   module _ {clock : ℕ} (is : clock ≡ resultAt trip s cursor .clock .0) where
     -- what a drive adds to the clock is its road time
-    pub drive-time : AcceptedMap map → 1 ≤ cursor → cursor ≤ roadCount map → DriveTime (s .clock .0) clock (stretchOf map cursor .seconds)
+    pub drive-time : AcceptedMap map → 1 ≤ cursor → cursor ≤ roadCount map → DriveTime (s .clock .0) clock (roadIn trip cursor .seconds)
     drive-time accepted low high =
         let road = sound-map map accepted .roads cursor low high in
-        let time = is ∙ ap (λ (t : State). t .clock .0) (sym (result-drive low high)) in
-        record { after = omega arith; is = omega arith; few = at-most _ _ (road .metres .below) (road .speed .above) }
+        let time = is ∙ ap (λ (t : State). t .clock .0) (sym (result-drive high)) in
+        record { after = omega arith; is = omega arith; few = rw (tied .road cursor low high) (at-most _ _ (road .metres .below) (road .speed .above)) }
 
     -- so the clock tells the state after it
     pub told-drive : AcceptedMap map → 1 ≤ cursor → cursor ≤ roadCount map → {to : ℕ} {figures : Figures} → to ≡ resultAt trip s cursor .junction → figures ≡ drivenOn (clock - s .clock .0) (s .figures) →
         record { junction = to; clock = record { 0 = clock }; figures = figures } ≡ resultAt trip s cursor
     told-drive accepted low high there on =
-        let result = result-drive low high in
+        let result = result-drive high in
         state-of there is
         (on ∙ ap (λ (seconds : ℕ). drivenOn seconds (s .figures)) (drive-time accepted low high .is) ∙ ap (λ (t : State). t .figures) result)
 

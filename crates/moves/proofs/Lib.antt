@@ -3,4 +3,5 @@ pub mod Trips
 pub mod Stepped
 pub mod Monotone
 pub mod Offered
+pub mod Struck
 pub mod Rising

@@ -1,11 +1,13 @@
 -- Every move raises the clock by its own time, at least 1, and a legal one keeps the state in range. Assumes nothing.
-use mathlib.Core.Path.{_≡_}
+use mathlib.Core.Path.{_≡_, sym, ap, subst}
 use mathlib.Core.Bool.{true, false}
 use mathlib.Core.List.{List}
 use mathlib.Core.Logic.{⊎-elim}
 use Prim.Native.Nat.{ℕ, _+_, _≤_}
 use native.Mathlib.Omega.{arith}
+use borrow.Author.Tests.{eqb-true, eqb-false}
 use lib.Dec.{T, eqb}
+use lib.ListN.{length}
 use Rattle.booleans.proofs.Tests.{cases, and-true}
 use Rattle.theory.specs.Figures.{noneAbove}
 use Rattle.theory.proofs.Figures.{above-tail, above-more, above-trans}
@@ -22,11 +24,13 @@ use Rattle.states.specs.States.{startOf, legal}
 use Rattle.states.proofs.Compared.{legal-within, within-legal, legal-clock}
 use Rattle.moves.specs.declared.Move.{Move}
 use Rattle.moves.specs.declared.Run.{Run}
-use Rattle.moves.specs.Trip.{Trip, tripOf, roadsIn, junctionsIn}
+use Rattle.moves.specs.Trip.{Stretch, Trip, tripOf, roadIn, roadsIn, junctionsIn}
+use Rattle.moves.specs.Struck.{struckIn}
 use Rattle.moves.specs.Moves.{offers, after, moveSeconds}
 use Rattle.moves.specs.Runs.{Accepted, tripIn, Tied, InRange, RangeIn}
 pub use Rattle.moves.specs.Runs.{SoundTrip}
 use Rattle.moves.proofs.Trips.{roads-in, junctions-in, order-in, road-in}
+use Rattle.moves.proofs.Struck.{struck-roads, struck-parks, struck-order, struck-seconds, struck-other, struck-own}
 use Rattle.moves.proofs.Stepped.{offered-road}
 use Rattle.moves.proofs.Offered.{pause-allowed}
 
@@ -49,8 +53,43 @@ sound-trip map o accepted ordered =
     within : (r : ℕ) → r ≤ roadsIn (tripOf map o) → r ≤ roadCount map
     within r high = rw (roads-in map o) at high
 
+-- a struck road leads to the junction where it begins
+module _ (trip : Trip) (sound : SoundTrip trip) (k : ℕ) (known : 1 ≤ k → k ≤ roadsIn trip → (1 ≤ roadIn trip k .from) × (roadIn trip k .from ≤ junctionsIn trip)) where
+  struck-ends : (P : ℕ → Type 0) → (r : ℕ) → 1 ≤ r → r ≤ roadsIn trip → P (roadIn trip r .to) → (r ≡ k → P (roadIn trip r .from)) → P (roadIn (struckIn k trip) r .to)
+  struck-ends P r low high to from =
+      ⊎-elim
+      (λ (own : eqb r k ≡ true).
+      let same = eqb-true r k own in
+      subst (λ (z : ℕ). P (roadIn (struckIn z trip) r .to)) same (subst (λ (w : Stretch). P (w .to)) (sym (struck-own trip r low high)) (from same)))
+      (λ (other : eqb r k ≡ false). subst (λ (w : Stretch). P (w .to)) (sym (struck-other trip k r low (eqb-false r k other))) to)
+      (cases (eqb r k))
+
+  pub struck-sound : SoundTrip (struckIn k trip)
+  struck-sound =
+      let junctions : junctionsIn (struckIn k trip) ≡ junctionsIn trip = ap length (struck-parks trip k) in
+      let roads = struck-roads trip k in
+      record {
+        few = rw junctions (sound .few);
+        few-roads = rw roads (sound .few-roads);
+        to-low = λ r low high.
+            let top = rw roads at high in
+            struck-ends (λ j. 1 ≤ j) r low top (sound .to-low r low top) (λ e. rw e (known (rw e at low) (rw e at top) .0));
+        to-high = λ r low high.
+            let top = rw roads at high in
+            rw junctions
+            (struck-ends (λ j. j ≤ junctionsIn trip) r low top (sound .to-high r low top) (λ e. rw e (known (rw e at low) (rw e at top) .1)));
+        seconds = λ r low high. let top = rw roads at high in rw (struck-seconds trip k r) (sound .seconds r low top);
+        ordered = rw (junctions, struck-order trip k) (sound .ordered);
+      }
+
 pub run-sound : (map : List ℕ) (run : Run) → Accepted map run → SoundTrip (tripIn map run)
-run-sound map run accepted = sound-trip map (run .order) (accepted .mapped) (accepted .ordered)
+run-sound map run accepted =
+    let trip : Trip = tripOf map (run .order) in
+    let roads = sound-map map (accepted .mapped) .roads in
+    struck-sound trip (sound-trip map (run .order) (accepted .mapped) (accepted .ordered)) (run .struck)
+    (λ low high.
+    let top : run .struck ≤ roadCount map = accepted .known in
+    rw (road-in map (run .order) (run .struck) low top, junctions-in map (run .order)) (roads (run .struck) low top .from .above, roads (run .struck) low top .from .below))
 
 -- arrival less departure is the sum of road times, breaks, rests and parts of breaks
 pub clock-after : (trip : Trip) (s : State) (m : Move) → after trip s m .clock .0 ≡ s .clock .0 + moveSeconds trip m

@@ -12,7 +12,7 @@ use Rattle.states.specs.States.{legal}
 use Rattle.moves.specs.declared.Move.{Move}
 use Rattle.moves.specs.declared.Run.{Run}
 use Rattle.moves.specs.declared.Step.{Step}
-use Rattle.moves.specs.Trip.{Trip, stretchOf, roadIn, roadsIn}
+use Rattle.moves.specs.Trip.{Trip, roadIn, roadsIn}
 use Rattle.moves.specs.Moves.{move, leaves, mayPause, offers, driven, paused, after, judged, stepped}
 use Rattle.moves.specs.Runs.{Tied}
 
@@ -46,11 +46,9 @@ module _ {map : List ℕ} {run : Run} {trip : Trip} (tied : Tied map run trip) (
   pub drive-foreign : leaves trip (s .junction) number ≡ false → Step.Foreign ≡ stepped trip s (move 1 number)
   drive-foreign e = rw (stepped-drive trip s (move 1 number) refl, e)
 
-  pub drive-told : {reached : State} → leaves trip (s .junction) number ≡ true → reached ≡ driven (stretchOf map number) s →
+  pub drive-told : {reached : State} → leaves trip (s .junction) number ≡ true → reached ≡ driven (roadIn trip number) s →
       judged true (legal (run .order) reached) reached ≡ stepped trip s (move 1 number)
-  drive-told {reached} e is =
-      let range = leaves-range tied (s .junction) number e in
-      rw (stepped-drive trip s (move 1 number) refl, e, tied .road number (range .0) (range .1), tied .order, is)
+  drive-told {reached} e is = rw (stepped-drive trip s (move 1 number) refl, e, tied .order, is)
 
   module _ (kind : ℕ) (not-1 : kind ≡ 1 → ⊥) where
     pub pause-elsewhere : (number ≡ s .junction → ⊥) → Step.Foreign ≡ stepped trip s (move kind number)

@@ -1,19 +1,23 @@
 -- The record of a run has the map's roads and car parks at their numbers. Assumes nothing.
-use mathlib.Core.Path.{_≡_, _∙_, refl, sym, ap}
-use mathlib.Core.Bool.{false}
-use mathlib.Core.List.{List}
+use mathlib.Core.Path.{_≡_, _∙_, refl, sym, ap, ap₂}
+use mathlib.Core.Bool.{Bool, true, false}
+use mathlib.Core.List.{List, _∷_}
+use mathlib.Core.Logic.{⊎-elim}
 use Prim.Native.Nat.{ℕ, zero, suc, _+_, _-_, _≤_, _<_}
 use native.Mathlib.Omega.{arith}
-use native.Mathlib.Nat.{add-zero}
-use borrow.Author.Tests.{le-leb, lt-leb}
+use native.Mathlib.Nat.{add-zero, eq-or-lt-of-le}
+use borrow.Author.Tests.{le-leb, lt-leb, eqb-true, eqb-false}
 use lib.Dec.{eqb}
-use lib.ListN.{length, getD}
+use lib.ListN.{length, getD, set}
+use Rattle.booleans.proofs.Tests.{cases}
 use Rattle.roadmap.specs.Format.{junctionCount, roadCount, carPark, roadFrom}
 use Rattle.driving.specs.declared.Order.{Order}
 use Rattle.moves.specs.declared.Run.{Run}
 use Rattle.moves.specs.Trip.{Trip, stretchOf, counted, tripOf, noStretch, roadIn, parkIn, roadsIn, junctionsIn}
 use Rattle.moves.specs.Moves.{leaves}
-use Rattle.moves.specs.Runs.{tripIn, Tied}
+use Rattle.moves.specs.Struck.{struckStretch, struckIn}
+use Rattle.moves.specs.Runs.{tripIn, stretchIn, Unstruck, Tied}
+use Rattle.moves.proofs.Struck.{struck-roads, struck-parks, struck-order, struck-other, struck-own}
 
 pub counted-length : {A : Type 0} (f : ℕ → A) (k n : ℕ) → length (counted f k n) ≡ n
 unfolding counted
@@ -29,6 +33,28 @@ counted-at f d k (suc n) (suc i) h =
   where
     next : (k i : ℕ) → k + 1 + i ≡ k + suc i
     next k i = omega arith
+
+-- equal values, equal lists; and where one value differs, it is set in its place
+pub counted-same : {A : Type 0} (f g : ℕ → A) (k n : ℕ) → ((i : ℕ) → k ≤ i → i < k + n → f i ≡ g i) → counted f k n ≡ counted g k n
+unfolding counted
+counted-same f g k zero same = refl
+counted-same f g k (suc n) same =
+    ap₂ _∷_ (same k (omega arith) (omega arith)) (counted-same f g (k + 1) n (λ i low high. same i (omega arith) (omega arith)))
+
+pub counted-set : {A : Type 0} (f g : ℕ → A) (k n j : ℕ) → k ≤ j → j < k + n → ((i : ℕ) → k ≤ i → i < k + n → (i ≡ j → ⊥) → f i ≡ g i)
+    → counted f k n ≡ set (counted g k n) (j - k) (f j)
+unfolding counted
+counted-set f g k zero j low high same = absurd (omega arith)
+counted-set f g k (suc n) j low high same =
+    ⊎-elim
+    (λ (here : k ≡ j).
+    let first : j - k ≡ 0 = omega arith in
+    rw (first, ← here) (ap (λ (l : List _). f k ∷ l) (counted-same f g (k + 1) n (λ i l h. same i (omega arith) (omega arith) (λ e. omega arith)))))
+    (λ (later : k < j).
+    let next : j - k ≡ suc (j - (k + 1)) = omega arith in
+    rw next
+    (ap₂ _∷_ (same k (omega arith) (omega arith) (λ e. omega arith)) (counted-set f g (k + 1) n j (omega arith) (omega arith) (λ i l h. same i (omega arith) (omega arith)))))
+    (eq-or-lt-of-le low)
 
 module _ (map : List ℕ) (order : Order) where
   pub roads-in : roadsIn (tripOf map order) ≡ roadCount map
@@ -61,15 +87,36 @@ module _ (map : List ℕ) (order : Order) where
       back r low = omega arith
 
 -- all of it of the trip that contracts name
-pub run-tied : (map : List ℕ) (run : Run) → Tied map run (tripIn map run)
-run-tied map run =
-    record {
-      junctions = junctions-in map (run .order);
-      roads = roads-in map (run .order);
-      road = road-in map (run .order);
-      park = park-in map (run .order);
-      order = order-in map (run .order);
-    }
+module _ (map : List ℕ) (run : Run) where
+  abbrev lent : Trip
+  lent = tripOf map (run .order)
+
+  run-road : (r : ℕ) → 1 ≤ r → r ≤ roadCount map → roadIn (tripIn map run) r ≡ stretchIn map run r
+  run-road r low high =
+      ⊎-elim
+      (λ (own : eqb r (run .struck) ≡ true).
+      ap (λ (k : ℕ). roadIn (struckIn k lent) r) (sym (eqb-true r (run .struck) own))
+      ∙ struck-own lent r low (rw (roads-in map (run .order)) high)
+      ∙ ap struckStretch (road-in map (run .order) r low high)
+      ∙ rw own refl)
+      (λ (other : eqb r (run .struck) ≡ false).
+      struck-other lent (run .struck) r low (eqb-false r (run .struck) other) ∙ road-in map (run .order) r low high ∙ rw other refl)
+      (cases (eqb r (run .struck)))
+
+  pub run-tied : Tied map run (tripIn map run)
+  run-tied =
+      record {
+        junctions = ap length (struck-parks lent (run .struck)) ∙ junctions-in map (run .order);
+        roads = struck-roads lent (run .struck) ∙ roads-in map (run .order);
+        road = run-road;
+        park = λ j low high. ap (λ (l : List Bool). getD l (j - 1) false) (struck-parks lent (run .struck)) ∙ park-in map (run .order) j low high;
+        order = struck-order lent (run .struck) ∙ order-in map (run .order);
+      }
+
+-- without a struck road it is that of the map and the order
+pub unstruck-trip : {map : List ℕ} {run : Run} → Unstruck map run → tripIn map run ≡ tripOf map (run .order)
+unfolding struckIn
+unstruck-trip {map} {run} opened = ap (λ (k : ℕ). struckIn k (tripOf map (run .order))) (opened .none-struck)
 
 -- which roads leave a junction, by the map
 module _ {map : List ℕ} {run : Run} {trip : Trip} (tied : Tied map run trip) where

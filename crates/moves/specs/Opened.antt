@@ -7,12 +7,12 @@ use Rattle.roadmap.specs.Format.{junctionCount}
 use Rattle.mapcheck.specs.MapCheck.{mapTests}
 use Rattle.driving.specs.Order.{orderOf, orderTests}
 use Rattle.moves.specs.declared.Opened.{Opened}
-use Rattle.moves.specs.Runs.{Accepted}
+use Rattle.moves.specs.Runs.{Unstruck}
 
 -- 1 to 11
 abbrev pub runTests : List ℕ → List ℕ → List Test
 runTests map order = mapTests map ++ orderTests (junctionCount map) order
 
 abbrev pub OpenedSays : List ℕ → List ℕ → Opened → Type 0
-OpenedSays map order (Opened.Ready run) = Accepted map run × (run .order ≡ orderOf order) × NoneFits (runTests map order)
+OpenedSays map order (Opened.Ready run) = Unstruck map run × (run .order ≡ orderOf order) × NoneFits (runTests map order)
 OpenedSays map order (Opened.Refused why) = Refuses (runTests map order) why

@@ -1,32 +1,50 @@
 -- What the code knows of a run: the map and the order are accepted; what its trip is in the map's bytes, and what is sound of it; a
 -- state's figures are in range. Assumes nothing.
 use mathlib.Core.Path.{_≡_}
-use mathlib.Core.Bool.{true}
+use mathlib.Core.Bool.{Bool, true, false}
 use mathlib.Core.List.{List}
 use Prim.Native.Nat.{ℕ, _≤_}
 use lib.Dec.{eqb}
-use Rattle.roadmap.specs.Format.{HasSizes, mostJunctions, mostRoads, junctionCount, roadCount, carPark}
+use Rattle.roadmap.specs.Format.{HasSizes, mostJunctions, mostRoads, junctionCount, roadCount, carPark, roadFrom, roadTo}
 use Rattle.mapcheck.specs.MapCheck.{AcceptedMap}
 use Rattle.driving.specs.declared.Order.{Order}
 use Rattle.driving.specs.Accepted.{AcceptedOrder}
 use Rattle.moves.specs.declared.Run.{Run}
 use Rattle.states.specs.declared.State.{State}
 use Rattle.states.specs.States.{legal}
-use Rattle.moves.specs.Trip.{Trip, stretchOf, tripOf, roadIn, parkIn, roadsIn, junctionsIn}
+use Rattle.moves.specs.Trip.{Stretch, Trip, stretchOf, tripOf, roadIn, parkIn, roadsIn, junctionsIn}
+use Rattle.moves.specs.Struck.{struckIn}
 
 pub record Accepted (map : List ℕ) (run : Run) : Type 0 where
   pub sized : HasSizes map (run .sizes)
   pub mapped : AcceptedMap map
   pub ordered : AcceptedOrder (junctionCount map) (run .order)
+  pub known : run .struck ≤ roadCount map
 
+-- the same, and no road is struck
+pub record Unstruck (map : List ℕ) (run : Run) : Type 0 where
+  pub accepted : Accepted map run
+  pub none-struck : run .struck ≡ 0
+
+-- the trip of the map's bytes and the run's order, with the run's road struck
 abbrev pub tripIn : List ℕ → Run → Trip
-tripIn map run = tripOf map (run .order)
+tripIn map run = struckIn (run .struck) (tripOf map (run .order))
 
--- the trip is that of the map's bytes and the run's order
+-- where a road of the map's bytes leads: a struck one back to where it begins
+abbrev pub endWhen : Bool → List ℕ → ℕ → ℕ
+endWhen true map r = roadFrom map r
+endWhen false map r = roadTo map r
+
+-- the road, as the run has it
+abbrev pub stretchIn : List ℕ → Run → ℕ → Stretch
+stretchIn map run r =
+    record { from = roadFrom map r; to = endWhen (eqb r (run .struck)) map r; seconds = stretchOf map r .seconds }
+
+-- the trip is that of the map's bytes and the run
 pub record Tied (map : List ℕ) (run : Run) (trip : Trip) : Type 0 where
   pub junctions : junctionsIn trip ≡ junctionCount map
   pub roads : roadsIn trip ≡ roadCount map
-  pub road : (r : ℕ) → 1 ≤ r → r ≤ roadCount map → roadIn trip r ≡ stretchOf map r
+  pub road : (r : ℕ) → 1 ≤ r → r ≤ roadCount map → roadIn trip r ≡ stretchIn map run r
   pub park : (j : ℕ) → 1 ≤ j → j ≤ junctionCount map → parkIn trip j ≡ eqb (carPark map j) 1
   pub order : trip .order ≡ run .order
 

@@ -6,9 +6,9 @@ ghost use Rattle.roadmap.specs.Format.{roadCount};
 ghost use Rattle.driving.specs.Accepted.{SoundRules};
 ghost use Rattle.driving.specs.Hours.{firstPause, lastPause};
 ghost use Rattle.states.specs.States.{legal};
-ghost use Rattle.moves.specs.Trip.{stretchOf};
+ghost use Rattle.moves.specs.Trip.{stretchOf, roadIn};
 ghost use Rattle.moves.specs.Moves.{move, driven, paused, judged, stepped, leaves, mayPause};
-ghost use Rattle.moves.specs.Runs.{Accepted, tripIn, RangeIn};
+ghost use Rattle.moves.specs.Runs.{Accepted, tripIn, stretchIn, RangeIn};
 ghost use Rattle.moves.specs.Opened.{OpenedSays};
 use driving::Order;
 use driving::Rules;
@@ -22,6 +22,8 @@ use states::State;
 pub struct Run {
     pub sizes: Sizes,
     pub order: Order,
+    // the road that is struck for this run, 0 for none
+    pub struck: u32,
 }
 
 // Kind 1 is a drive of a road, the others are pauses at a junction.
@@ -53,15 +55,26 @@ pub fn seconds_of(map: &[u8], run: Run, r: u32) -> u32
     roadmap::road_seconds(metres, speed)
 }
 
+// Where road r leads: a struck one back to where it begins.
+fn end_of(map: &[u8], run: Run, r: u32) -> u32
+    requires { ⌜ Accepted (now map) run ⌝ }
+    requires { ⌜ (1 ≤ r) × (r ≤ roadCount (now map)) ⌝ }
+    ensures { λ j. ⌜ j ≡ stretchIn (now (map .entry)) run r .to ⌝ }
+{
+    if r == run.struck {
+        return roadmap::road_from(map, run.sizes, r);
+    }
+    roadmap::road_to(map, run.sizes, r)
+}
+
 // The state after driving road r.
 pub fn after_drive(map: &[u8], run: Run, state: State, r: u32) -> State
     requires { ⌜ Accepted (now map) run ⌝ }
     requires { ⌜ RangeIn (tripIn (now map) run) state ⌝ }
     requires { ⌜ (1 ≤ r) × (r ≤ roadCount (now map)) ⌝ }
-    ensures { λ s. ⌜ s ≡ driven (stretchOf (now (map .entry)) r) state ⌝ }
+    ensures { λ s. ⌜ s ≡ driven (roadIn (tripIn (now (map .entry)) run) r) state ⌝ }
 {
-    let sizes = run.sizes;
-    let to = roadmap::road_to(map, sizes, r);
+    let to = end_of(map, run, r);
     let time = seconds_of(map, run, r);
     let figures = driving::driven(state.figures, time);
     State {
@@ -200,5 +213,6 @@ pub fn open_run(map: &[u8], order: &[u8]) -> Opened
     Opened::Ready(Run {
         sizes,
         order: decoded,
+        struck: 0,
     })
 }

@@ -15,7 +15,7 @@ use Rattle.driving.specs.Hours.{firstPause, lastPause}
 use Rattle.states.specs.declared.State.{State}
 use Rattle.moves.specs.declared.Move.{Move}
 use Rattle.moves.specs.declared.Run.{Run}
-use Rattle.moves.specs.Trip.{Trip, stretchOf}
+use Rattle.moves.specs.Trip.{Trip, roadIn}
 use Rattle.moves.specs.Moves.{move, mayPause, offers, driven, paused, after}
 use Rattle.states.specs.States.{legal, sameState}
 use Rattle.moves.specs.Runs.{Tied}
@@ -130,9 +130,9 @@ pub record OwnRoad (map : List ℕ) (p : State) (r : ℕ) : Type 0 where
 
 -- what the code asks of a state reached is what the definition asks of the move
 module _ {map : List ℕ} {run : Run} {trip : Trip} (tied : Tied map run trip) (p t : State) where
-  pub drive-leads : (r : ℕ) (s : State) → 1 ≤ r → r ≤ roadCount map → s ≡ driven (stretchOf map r) p → movesTo trip p t (move 1 r) ≡ (legal (run .order) s && sameState s t)
+  pub drive-leads : (r : ℕ) (s : State) → s ≡ driven (roadIn trip r) p → movesTo trip p t (move 1 r) ≡ (legal (run .order) s && sameState s t)
   unfolding after
-  drive-leads r s low high is = rw (tied .road r low high, tied .order, is)
+  drive-leads r s is = rw (tied .order, is)
 
   pub pause-leads : (kind : ℕ) (s : State) → firstPause ≤ kind → s ≡ paused kind (run .order .rules) p → movesTo trip p t (move kind (p .junction)) ≡ (legal (run .order) s && sameState s t)
   unfolding after

@@ -11,8 +11,8 @@ use Rattle.moves.specs.declared.Run.{Run}
 use Rattle.states.specs.declared.State.{State}
 use Rattle.moves.specs.Trip.{Trip}
 use Rattle.states.specs.States.{startOf}
-use Rattle.moves.specs.Runs.{Accepted, tripIn, RangeIn}
-use Rattle.moves.proofs.Trips.{run-tied}
+use Rattle.moves.specs.Runs.{Accepted, Unstruck, tripIn, RangeIn}
+use Rattle.moves.proofs.Trips.{run-tied, unstruck-trip}
 use Rattle.moves.proofs.Rising.{run-sound, run-starts}
 use Rattle.sheets.specs.declared.Row.{Row}
 use Rattle.sheets.specs.Sheet.{rowAt, rowsOf, sheetNeeded, withRow}
@@ -102,15 +102,17 @@ module _ (map : List ℕ) (run : Run) (sheet : List ℕ) (moves : ℕ) (last : S
     -- and those before it are written
     pub done : out ≡ rowsPut 0 (take (k - 1) rows) before
 
-  pub rewriting-start : Accepted map run → moves ≡ movesOn sheet → timing false map (run .order) sheet ≡ reached last rows → Rewriting 1 (startOf (run .order)) before
+  pub rewriting-start : Unstruck map run → moves ≡ movesOn sheet → timing false map (run .order) sheet ≡ reached last rows → Rewriting 1 (startOf (run .order)) before
   unfolding timing
-  rewriting-start accepted is timed =
+  rewriting-start opened is timed =
       let all : moves + 1 - 1 ≡ movesOn sheet = omega arith in
       record {
         low = omega arith;
         high = omega arith;
-        range = run-starts (run-tied map run) (run-sound map run accepted);
-        left = ap (walkFrom 1 (startOf (run .order))) all ∙ timed;
+        range = run-starts (run-tied map run) (run-sound map run (opened .accepted));
+        left = ap (walkFrom 1 (startOf (run .order))) all
+            ∙ ap (λ (t : Trip). walk false t 1 (startOf (run .order)) (rowsOf sheet 1 (movesOn sheet))) (unstruck-trip opened)
+            ∙ timed;
         done = sym (none-from 0 before);
       }
 

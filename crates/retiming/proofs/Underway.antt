@@ -8,8 +8,9 @@ use Rattle.replies.specs.declared.Refusal.{Refusal}
 use Rattle.moves.specs.declared.Run.{Run}
 use Rattle.states.specs.declared.State.{State}
 use Rattle.states.specs.States.{startOf}
-use Rattle.moves.specs.Runs.{Accepted, tripIn, RangeIn}
-use Rattle.moves.proofs.Trips.{run-tied}
+use Rattle.moves.specs.Trip.{Trip}
+use Rattle.moves.specs.Runs.{Accepted, Unstruck, tripIn, RangeIn}
+use Rattle.moves.proofs.Trips.{run-tied, unstruck-trip}
 use Rattle.moves.proofs.Rising.{run-sound, run-starts}
 use Rattle.sheets.specs.declared.Row.{Row}
 use Rattle.sheets.specs.Sheet.{rowAt, rowsOf}
@@ -27,15 +28,17 @@ module _ (clocks : Bool) (map : List ℕ) (run : Run) (sheet : List ℕ) (moves 
     -- what the rest of the walk comes to is what the whole comes to
     pub rest : (r : Walked) → WalkSays (walk clocks (tripIn map run) k s (rowsOf sheet k (moves + 1 - k))) r → WalkSays (timing clocks map (run .order) sheet) r
 
-  pub underway-start : Accepted map run → moves ≡ movesOn sheet → Underway 1 (startOf (run .order))
+  pub underway-start : Unstruck map run → moves ≡ movesOn sheet → Underway 1 (startOf (run .order))
   unfolding timing
-  underway-start accepted is =
+  underway-start opened is =
       let all : moves + 1 - 1 ≡ movesOn sheet = omega arith in
       record {
         low = omega arith;
         high = omega arith;
-        range = run-starts (run-tied map run) (run-sound map run accepted);
-        rest = λ r h. subst (λ (n : ℕ). WalkSays (walk clocks (tripIn map run) 1 (startOf (run .order)) (rowsOf sheet 1 n)) r) all h;
+        range = run-starts (run-tied map run) (run-sound map run (opened .accepted));
+        rest = λ r h.
+            subst (λ (t : Trip). WalkSays (walk clocks t 1 (startOf (run .order)) (rowsOf sheet 1 (movesOn sheet))) r) (unstruck-trip opened)
+            (subst (λ (n : ℕ). WalkSays (walk clocks (tripIn map run) 1 (startOf (run .order)) (rowsOf sheet 1 n)) r) all h);
       }
 
   module _ (k : ℕ) (s : State) (on : Underway k s) where

@@ -16,7 +16,7 @@ returns : tie.Need-returns
 returns c =
     let s = c .before .before .before .before .before in
     let args = s .args in
-    c .after-drive .ensures ∙ result-drive (run-tied (args .map .now) (args .run)) (args .state) (args .cursor) (s .pre .1 .1 .0) (omega (arith, c .before .if1 .taken, s .pre .0 .sized .roads))
+    c .after-drive .ensures ∙ result-drive (run-tied (args .map .now) (args .run)) (args .state) (args .cursor) (omega (arith, c .before .if1 .taken, s .pre .0 .sized .roads))
 
 add-after-pause : tie.Need-add-after-pause
 add-after-pause c =

@@ -4,7 +4,7 @@ use Prim.Native.Nat.{_≤_}
 use native.Mathlib.Omega.{arith}
 use borrow.Author.Needs.{needs}
 use Rattle.roadmap.specs.Format.{HasSizes, roadCount}
-use Rattle.moves.specs.Trip.{stretchOf}
+use Rattle.moves.specs.Trip.{roadIn}
 use Rattle.moves.specs.Runs.{tripIn}
 use Rattle.moves.proofs.Trips.{run-tied}
 use Rattle.moves.proofs.Rising.{run-sound, figures-high}
@@ -30,7 +30,7 @@ road c = let s = c .before .before .before .before .before in omega (arith, c .i
 
 time : (c : tie.Then1) →
     let s = c .before .before .before .before .before in
-    DriveTime (s .args .state .clock .0) (s .args .c .clock) (stretchOf (s .args .map .now) (s .args .c .cursor) .seconds)
+    DriveTime (s .args .state .clock .0) (s .args .c .clock) (roadIn (tripIn (s .args .map .now) (s .args .run)) (s .args .c .cursor) .seconds)
 time c =
     let s = c .before .before .before .before .before in
     drive-time (run-tied (s .args .map .now) (s .args .run)) (s .args .state) (s .args .c .cursor) (clock s) (s .pre .0 .0 .mapped) (names s .low) (road c)

@@ -1,6 +1,7 @@
 use borrow.Author.Needs.{needs}
-use mathlib.Core.Path.{_∙_, ap, subst}
+use mathlib.Core.Path.{_∙_, refl, ap, subst}
 use Prim.Native.Nat.{ℕ}
+use native.Mathlib.Omega.{arith}
 use Rattle.replies.specs.First.{firstOf, NoneFits, Tried}
 use Rattle.replies.specs.Told.{succeeded}
 use Rattle.replies.proofs.First.{tried, refuses-more, refuses-after, none-of-both, none-under}
@@ -66,9 +67,13 @@ returns-3 c =
     let accepted = map-passed passed in
     let ordered = none-fits told in (
       record {
-        sized = has-sizes (args .map .now) (told .before .before .before .sizes-of .result) (accepted-sizes (args .map .now) accepted) (told .before .before .before .sizes-of .ensures);
-        mapped = accepted;
-        ordered = rw (c .read-order .ensures) (order-accepted (junctionCount (args .map .now)) (args .order .now) ordered);
+        accepted = record {
+          sized = has-sizes (args .map .now) (told .before .before .before .sizes-of .result) (accepted-sizes (args .map .now) accepted) (told .before .before .before .sizes-of .ensures);
+          mapped = accepted;
+          ordered = rw (c .read-order .ensures) (order-accepted (junctionCount (args .map .now)) (args .order .now) ordered);
+          known = omega arith;
+        };
+        none-struck = refl;
       },
       c .read-order .ensures,
       none-of-both (mapTests (args .map .now)) (orderTests (junctionCount (args .map .now)) (args .order .now)) accepted ordered,

@@ -10,7 +10,7 @@ print-run-requires c κs =
     let told = c .before .opened .given .1 in
     let opened = c .before .before .before in
     let args = opened .before .before .before .before .args in
-    (subst (OpenedSays (args .map .now) (args .order .now)) told (opened .open-run .ensures) .0, search needs)
+    (subst (OpenedSays (args .map .now) (args .order .now)) told (opened .open-run .ensures) .0 .accepted, search needs)
 
 pub print-plan-spec : {M : Type 1} → statement M
 print-plan-spec =

@@ -27,7 +27,7 @@ returns-2 c =
     let args = start .args in
     let low : 1 ≤ args .road = omega (arith, c .before .before .before .if1 .left) in
     let driven = c .before .after-drive in
-    rw (lt-ltb 0 (args .road) low, drive-leads (run-tied (args .map .now) (args .run)) (args .p) (args .t) (args .road) (driven .result) low (start .pre .2) (driven .ensures))
+    rw (lt-ltb 0 (args .road) low, drive-leads (run-tied (args .map .now) (args .run)) (args .p) (args .t) (args .road) (driven .result) (driven .ensures))
     (ap not (c .leads-to .ensures))
 
 pub passes-by-spec : {M : Type 1} → statement M

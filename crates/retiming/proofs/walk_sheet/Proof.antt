@@ -32,7 +32,7 @@ read-row-requires c κs =
     (c .before .loop .inv .low, omega (arith, start .pre .1, c .before .before .before .word .ensures, c .loop-test .taken))
 
 walk-row-requires : tie.Need-walk-row-requires Inv-loop μ-loop
-walk-row-requires c κs = (c .before .before .before .before .before .before .before .before .pre .0, c .before .before .loop .inv .range)
+walk-row-requires c κs = (c .before .before .before .before .before .before .before .before .pre .0 .accepted, c .before .before .loop .inv .range)
 
 -- what was walked is the sheet's record k
 judged : (c : tie.After-walk-row Inv-loop μ-loop) →
@@ -55,7 +55,7 @@ loop-again c =
     let at-loop = walked .before .before .before in
     let start = at-loop .before .before .before .before .before .before in
     let args = start .args in
-    underway-next (args .clocks) (args .map .now) (args .run) (args .sheet .now) (at-loop .before .before .word .result) (at-loop .loop .k) (at-loop .loop .state) (at-loop .loop .inv) (start .pre .0) (walked .before .before .loop-test .taken) (c .before .walked2 .given .0 .0)
+    underway-next (args .clocks) (args .map .now) (args .run) (args .sheet .now) (at-loop .before .before .word .result) (at-loop .loop .k) (at-loop .loop .state) (at-loop .loop .inv) (start .pre .0 .accepted) (walked .before .before .loop-test .taken) (c .before .walked2 .given .0 .0)
     (subst (WalkSays (walk (args .clocks) (tripIn (args .map .now) (args .run)) (at-loop .loop .k) (at-loop .loop .state) (rowAt (args .sheet .now) (at-loop .loop .k) ∷ []))) (c .before .walked2 .given .1) (judged walked))
 
 returns-2 : tie.Need-returns-2 Inv-loop μ-loop

@@ -40,7 +40,7 @@ read-row-requires c κs =
     (c .before .loop .inv .low, omega (arith, start .pre .1 .0, c .before .before .before .word .ensures, c .loop-test .taken))
 
 walk-row-requires : tie.Need-walk-row-requires Inv-loop μ-loop
-walk-row-requires c κs = (c .before .before .before .before .before .before .before .before .before .pre .0, c .before .before .loop .inv .range)
+walk-row-requires c κs = (c .before .before .before .before .before .before .before .before .before .pre .0 .accepted, c .before .before .loop .inv .range)
 
 -- what was walked is the sheet's record k
 judged : (c : tie.After-walk-row Inv-loop μ-loop) →
@@ -88,7 +88,7 @@ loop-again c =
     let start = at-loop .before .before .before .before .before .before .before in
     let args = start .args in
     rw (c .before .before .write-row .ensures, walked .before .read-row .ensures)
-    (rewriting-next (args .map .now) (args .run) (args .sheet .now) _ _ _ (args .out .now) (at-loop .loop .k) (at-loop .loop .state) (at-loop .loop .out) (at-loop .loop .inv) (start .pre .0) (walked .before .before .loop-test .taken) (rw (at-loop .before .before .word .ensures) (start .pre .1 .1 .1)) (reached .before .walked2 .given .0 .0)
+    (rewriting-next (args .map .now) (args .run) (args .sheet .now) _ _ _ (args .out .now) (at-loop .loop .k) (at-loop .loop .state) (at-loop .loop .out) (at-loop .loop .inv) (start .pre .0 .accepted) (walked .before .before .loop-test .taken) (rw (at-loop .before .before .word .ensures) (start .pre .1 .1 .1)) (reached .before .walked2 .given .0 .0)
     (subst (WalkSays (walk false (tripIn (args .map .now) (args .run)) (at-loop .loop .k) (at-loop .loop .state) (rowAt (args .sheet .now) (at-loop .loop .k) ∷ []))) (reached .before .walked2 .given .1) (judged walked)))
 
 same-length-2 : tie.Need-same-length-2 Inv-loop μ-loop
