@@ -9,5 +9,6 @@ pub mod Rows
 pub mod Planning
 pub mod Endings
 pub mod Compared
+pub mod Struck
 pub mod Runs
 pub mod Worked
