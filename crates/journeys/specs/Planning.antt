@@ -21,9 +21,9 @@ abbrev pub isNone : Option State → Bool
 isNone none = true
 isNone (some a) = false
 
--- the numbers of the refusals that are given before the search
+-- the numbers of the refusals that are given before the search; 24 is the preview's
 abbrev pub beforeSearch : List ℕ
-beforeSearch = 1 ∷ 2 ∷ 3 ∷ 4 ∷ 5 ∷ 6 ∷ 7 ∷ 8 ∷ 9 ∷ 10 ∷ 11 ∷ []
+beforeSearch = 1 ∷ 2 ∷ 3 ∷ 4 ∷ 5 ∷ 6 ∷ 7 ∷ 8 ∷ 9 ∷ 10 ∷ 11 ∷ 24 ∷ []
 
 -- refusal 12, full: N above labels that fit
 abbrev pub full : Trip → ℕ → Option ℕ

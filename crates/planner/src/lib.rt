@@ -10,6 +10,7 @@ ghost use Rattle.search.specs.Turns.{OutcomeSays};
 ghost use Rattle.states.specs.LabelSpace.{mostLabels, labelsThatFit};
 ghost use Rattle.planner.specs.Parts.{HandedBack, Concluded};
 ghost use Rattle.planner.specs.Planned.{Planned};
+ghost use Rattle.planner.specs.Preview.{Previewed};
 use moves::Opened;
 use moves::Run;
 use replies::Planning;
@@ -94,5 +95,28 @@ pub fn plan(map: &[u8], order: &[u8], words: &mut [u32], sheet: &mut [u8]) -> Pl
     match opened {
         Opened::Refused(why) => Planning::Refused(why),
         Opened::Ready(run) => plan_run(map, run, words, sheet),
+    }
+}
+
+// The preview of a closure: what planning would answer and write with this road struck. The map is only read.
+pub fn preview(map: &[u8], order: &[u8], road: u32, words: &mut [u32], sheet: &mut [u8]) -> Planning
+    ensures { λ r. ⌜ Previewed (now (map .entry)) (now (order .entry)) road (now (words .entry)) (now (words .exit)) (now (sheet .entry)) (now (sheet .exit)) r ⌝ }
+{
+    let opened = moves::open_run(map, order);
+    match opened {
+        Opened::Refused(why) => Planning::Refused(why),
+        Opened::Ready(run) => {
+            let sizes = run.sizes;
+            if striking::is_unknown(sizes, road) {
+                return Planning::Refused(Refusal::UnknownRoad(road as usize));
+            }
+            let decoded = run.order;
+            let closed = Run {
+                sizes,
+                order: decoded,
+                struck: road,
+            };
+            plan_run(map, closed, words, sheet)
+        }
     }
 }

@@ -185,6 +185,22 @@ pub stops-at : (t : Test) (ts : List Test) (success : Reply) {place : ℕ} → t
 unfolding firstOf
 stops-at t ts success e = rw e
 
+-- what is said where none fits: the first of a second list
+pub first-append : (ts us : List Test) (success : Reply) → firstOf (ts ++ us) success ≡ firstOf ts (firstOf us success)
+unfolding firstOf
+first-append [] us success = refl
+first-append (t ∷ ts) us success = ap (refusedOr (t .number) (t .place)) (first-append ts us success)
+
+-- it matters only there
+pub first-same : (ts : List Test) {one other : Reply} → (NoneFits ts → one ≡ other) → firstOf ts one ≡ firstOf ts other
+unfolding firstOf
+first-same [] same = same tt
+first-same (t ∷ ts) {one} {other} same = at (t .place) refl (λ rest. first-same ts rest)
+  where
+    at : (o : Option ℕ) → t .place ≡ o → ((NoneFits ts → one ≡ other) → firstOf ts one ≡ firstOf ts other) → firstOf (t ∷ ts) one ≡ firstOf (t ∷ ts) other
+    at none is-none go = rw is-none (go (λ all. same (is-none, all)))
+    at (some place) is-some go = rw is-some refl
+
 -- lists that are tried one after the other
 pub refuses-more : (ts us : List Test) (why : Refusal) → Refuses ts why → Refuses (ts ++ us) why
 refuses-more ts us why refused rest success = rw (append-assoc ts us rest) (refused (us ++ rest) success)
