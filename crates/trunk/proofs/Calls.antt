@@ -19,22 +19,20 @@ use Rattle.replies.specs.Pick.{pick}
 use Rattle.replies.proofs.First.{refusal-number}
 use Rattle.roadmap.specs.Format.{nameLength}
 use Rattle.mapedit.specs.Name.{nameReply, nameAt, namePart}
-use Rattle.mapedit.specs.Chaining.{ChainMaking}
 use Rattle.mapedit.proofs.Named.{length-named}
 use Rattle.driving.specs.declared.Figures.{Figures}
 use Rattle.replay.specs.Replay.{Replayed}
 use Rattle.retiming.specs.Retiming.{Retimed}
-use Rattle.planner.specs.Planned.{Planned}
 use Rattle.trunk.specs.Written.{replyPut, partPut, rulesIn, figuresIn}
-use Rattle.trunk.specs.Calls.{JudgingCall, PlanCall, RetimeCall, NameCall, ChainsCall, ReplayCall, namePut, figuresLeft}
+use Rattle.trunk.specs.Calls.{JudgingCall, PlanningCall, RetimeCall, NameCall, EditingCall, ReplayCall, namePut, figuresLeft}
 
 -- nothing is written
 module _ {reply : List ℕ} (short : length reply < 3) where
   pub judging-short : (tells : Reply) → JudgingCall tells reply reply
   judging-short tells = record { short = λ _. refl; told = λ room. absurd (omega arith) }
 
-  pub plan-short : (map order words sheet : List ℕ) → PlanCall map order words words sheet sheet reply reply
-  plan-short map order words sheet = record { short = λ _. (refl, refl, refl); told = λ room. absurd (omega arith) }
+  pub planning-short : (Owes : Planning → Type 0) (words sheet : List ℕ) → PlanningCall Owes words words sheet sheet reply reply
+  planning-short Owes words sheet = record { short = λ _. (refl, refl, refl); told = λ room. absurd (omega arith) }
 
   pub retime-short : (map order sheet out : List ℕ) → RetimeCall map order sheet out out reply reply
   retime-short map order sheet out = record { short = λ _. (refl, refl); told = λ room. absurd (omega arith) }
@@ -43,8 +41,8 @@ module _ {reply : List ℕ} (short : length reply < 3) where
   name-short map junction part =
       record { short = λ _. (refl, refl); short-part = λ _. (refl, refl); told = λ room _. absurd (omega arith) }
 
-  pub chains-short : (map : List ℕ) → ChainsCall map map reply reply
-  chains-short map = record { short = λ _. (refl, refl); told = λ room. absurd (omega arith) }
+  pub editing-short : (Owes : Check → Type 0) (map : List ℕ) → EditingCall Owes map map reply reply
+  editing-short Owes map = record { short = λ _. (refl, refl); told = λ room. absurd (omega arith) }
 
   pub replay-short : (trace rules figures : List ℕ) → ReplayCall trace rules figures figures reply reply
   replay-short trace rules figures =
@@ -67,10 +65,10 @@ module _ {reply reply′ : List ℕ} {told : Reply} (room : 3 ≤ length reply) 
   pub judging-told : {tells : Reply} → told ≡ tells → JudgingCall tells reply reply′
   judging-told is = record { short = λ short. absurd (omega arith); told = λ _. written ∙ ap (replyPut reply) is }
 
-  pub plan-told : {map order words words′ sheet sheet′ : List ℕ} {answer : Planning} → told ≡ toldPlan answer
-      → Planned map order words words′ sheet sheet′ answer → PlanCall map order words words′ sheet sheet′ reply reply′
-  plan-told {answer = answer} is planned =
-      record { short = λ short. absurd (omega arith); told = λ _. (answer, planned, written ∙ ap (replyPut reply) is) }
+  pub planning-told : {Owes : Planning → Type 0} {words words′ sheet sheet′ : List ℕ} (answer : Planning) → told ≡ toldPlan answer → Owes answer
+      → PlanningCall Owes words words′ sheet sheet′ reply reply′
+  planning-told answer is owed =
+      record { short = λ short. absurd (omega arith); told = λ _. (answer, owed, written ∙ ap (replyPut reply) is) }
 
   pub retime-told : {map order sheet out out′ : List ℕ} {answer : Timing} → told ≡ toldTiming answer
       → Retimed map order sheet out out′ answer → RetimeCall map order sheet out out′ reply reply′
@@ -86,9 +84,9 @@ module _ {reply reply′ : List ℕ} {told : Reply} (room : 3 ≤ length reply) 
         told = λ _ _. (written ∙ ap (replyPut reply) is, placed);
       }
 
-  pub chains-told : {map map′ : List ℕ} {answer : Check} → told ≡ toldCheck answer → ChainMaking map map′ answer → ChainsCall map map′ reply reply′
-  chains-told {answer = answer} is made =
-      record { short = λ short. absurd (omega arith); told = λ _. (answer, made, written ∙ ap (replyPut reply) is) }
+  pub editing-told : {Owes : Check → Type 0} {map map′ : List ℕ} (answer : Check) → told ≡ toldCheck answer → Owes answer → EditingCall Owes map map′ reply reply′
+  editing-told answer is owed =
+      record { short = λ short. absurd (omega arith); told = λ _. (answer, owed, written ∙ ap (replyPut reply) is) }
 
   pub replay-told : {trace rules figures figures′ : List ℕ} {answer : Replaying} {after : Figures} → 6 ≤ length rules → 3 ≤ length figures → told ≡ toldReplaying answer
       → Replayed trace (rulesIn rules) (figuresIn figures) after answer → figures′ ≡ figuresLeft (toldReplaying answer) figures after → ReplayCall trace rules figures figures′ reply reply′

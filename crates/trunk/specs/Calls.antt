@@ -18,10 +18,12 @@ use Rattle.mapcheck.specs.MapCheck.{mapTests}
 use Rattle.driving.specs.declared.Figures.{Figures}
 use Rattle.driving.specs.Order.{orderTests}
 use Rattle.replay.specs.Replay.{Replayed}
+use Rattle.striking.specs.Striking.{Striking}
 use Rattle.mapedit.specs.Name.{nameReply, nameAt}
 use Rattle.mapedit.specs.Chaining.{ChainMaking}
 use Rattle.retiming.specs.Retiming.{auditReply, Retimed}
 use Rattle.planner.specs.Planned.{Planned}
+use Rattle.planner.specs.Preview.{Previewed}
 use Rattle.trunk.specs.Written.{replyPut, partPut, rulesIn, figuresIn, figuresPut}
 
 -- a call that only judges: it writes nothing but what it tells
@@ -39,10 +41,18 @@ OrderCheckCall order junctions reply reply′ = JudgingCall (firstOf (orderTests
 abbrev pub AuditCall : List ℕ → List ℕ → List ℕ → List ℕ → List ℕ → Type 0
 AuditCall map order sheet reply reply′ = JudgingCall (auditReply map order sheet) reply reply′
 
-pub record PlanCall (map order words words′ sheet sheet′ reply reply′ : List ℕ) : Type 0 where
+-- a call that plans: its operation owes this of its answer
+pub record PlanningCall (Owes : Planning → Type 0) (words words′ sheet sheet′ reply reply′ : List ℕ) : Type 0 where
   pub short : length reply < 3 → (words′ ≡ words) × (sheet′ ≡ sheet) × (reply′ ≡ reply)
-  pub told : 3 ≤ length reply
-      → (answer : Planning) × Planned map order words words′ sheet sheet′ answer × (reply′ ≡ replyPut reply (toldPlan answer))
+  pub told : 3 ≤ length reply → (answer : Planning) × Owes answer × (reply′ ≡ replyPut reply (toldPlan answer))
+
+abbrev pub PlanCall : List ℕ → List ℕ → List ℕ → List ℕ → List ℕ → List ℕ → List ℕ → List ℕ → Type 0
+PlanCall map order words words′ sheet sheet′ reply reply′ =
+    PlanningCall (Planned map order words words′ sheet sheet′) words words′ sheet sheet′ reply reply′
+
+abbrev pub PreviewCall : List ℕ → List ℕ → ℕ → List ℕ → List ℕ → List ℕ → List ℕ → List ℕ → List ℕ → Type 0
+PreviewCall map order road words words′ sheet sheet′ reply reply′ =
+    PlanningCall (Previewed map order road words words′ sheet sheet′) words words′ sheet sheet′ reply reply′
 
 pub record RetimeCall (map order sheet out out′ reply reply′ : List ℕ) : Type 0 where
   pub short : length reply < 3 → (out′ ≡ out) × (reply′ ≡ reply)
@@ -63,10 +73,16 @@ pub record NameCall (map : List ℕ) (junction : ℕ) (reply reply′ part part�
   pub told : 3 ≤ length reply → 2 ≤ length part
       → (reply′ ≡ replyPut reply (nameReply map junction)) × (part′ ≡ namePut map junction part)
 
-pub record ChainsCall (map map′ reply reply′ : List ℕ) : Type 0 where
+-- a call that changes a map: its operation owes this of its answer
+pub record EditingCall (Owes : Check → Type 0) (map map′ reply reply′ : List ℕ) : Type 0 where
   pub short : length reply < 3 → (map′ ≡ map) × (reply′ ≡ reply)
-  pub told : 3 ≤ length reply
-      → (answer : Check) × ChainMaking map map′ answer × (reply′ ≡ replyPut reply (toldCheck answer))
+  pub told : 3 ≤ length reply → (answer : Check) × Owes answer × (reply′ ≡ replyPut reply (toldCheck answer))
+
+abbrev pub ChainsCall : List ℕ → List ℕ → List ℕ → List ℕ → Type 0
+ChainsCall map map′ reply reply′ = EditingCall (ChainMaking map map′) map map′ reply reply′
+
+abbrev pub StrikeCall : List ℕ → ℕ → List ℕ → List ℕ → List ℕ → Type 0
+StrikeCall map road map′ reply reply′ = EditingCall (Striking map road map′) map map′ reply reply′
 
 -- the lent figures afterwards: up to date where the trace is accepted; a refused one leaves every word
 abbrev pub figuresLeft : Reply → List ℕ → Figures → List ℕ

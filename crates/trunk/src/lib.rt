@@ -7,7 +7,7 @@ ghost use lib.ListN.{length};
 ghost use Rattle.replies.specs.Told.{toldName};
 ghost use Rattle.mapedit.specs.Name.{nameReply};
 ghost use Rattle.trunk.specs.Written.{replyPut, rulesIn, figuresIn, markWord, figuresPut};
-ghost use Rattle.trunk.specs.Calls.{MapCheckCall, OrderCheckCall, PlanCall, RetimeCall, AuditCall, NameCall, ChainsCall, ReplayCall, namePut, figuresLeft};
+ghost use Rattle.trunk.specs.Calls.{MapCheckCall, OrderCheckCall, PlanCall, PreviewCall, RetimeCall, AuditCall, NameCall, ChainsCall, StrikeCall, ReplayCall, namePut, figuresLeft};
 use driving::Figures;
 use driving::Rules;
 use replies::NameReply;
@@ -73,6 +73,25 @@ pub extern "C" fn trunk_plan(
         return;
     }
     let told = planner::plan(map, order, words, sheet).reply();
+    put_reply(reply, told);
+}
+
+// The preview of a closure.
+#[no_mangle]
+pub extern "C" fn trunk_preview(
+    map: &[u8],
+    order: &[u8],
+    road: u32,
+    words: &mut [u32],
+    sheet: &mut [u8],
+    reply: &mut [u64],
+)
+    ensures { λ _. ⌜ PreviewCall (now (map .entry)) (now (order .entry)) road (now (words .entry)) (now (words .exit)) (now (sheet .entry)) (now (sheet .exit)) (now (reply .entry)) (now (reply .exit)) ⌝ }
+{
+    if reply.len() < REPLY_NUMBERS {
+        return;
+    }
+    let told = planner::preview(map, order, road, words, sheet).reply();
     put_reply(reply, told);
 }
 
@@ -150,6 +169,18 @@ pub extern "C" fn trunk_make_chains(map: &mut [u8], reply: &mut [u64])
         return;
     }
     let told = mapedit::make_chains(map).reply();
+    put_reply(reply, told);
+}
+
+// Striking a road.
+#[no_mangle]
+pub extern "C" fn trunk_strike(map: &mut [u8], road: u32, reply: &mut [u64])
+    ensures { λ _. ⌜ StrikeCall (now (map .entry)) road (now (map .exit)) (now (reply .entry)) (now (reply .exit)) ⌝ }
+{
+    if reply.len() < REPLY_NUMBERS {
+        return;
+    }
+    let told = striking::strike(map, road).reply();
     put_reply(reply, told);
 }
 

@@ -1,16 +1,16 @@
 use borrow.Author.Needs.{needs}
-use Rattle.trunk.proofs.Calls.{plan-short, plan-told}
+use Rattle.trunk.proofs.Calls.{planning-short, planning-told}
 use Rattle.trunk.proofs.trunk_plan.Statement.{statement}
 use Rattle.trunk.proofs.trunk_plan.Tie as tie
 
 returns : tie.Need-returns
-returns c = plan-short (c .if1 .taken) _ _ _ _
+returns c = planning-short (c .if1 .taken) _ _ _
 
 returns-2 : tie.Need-returns-2
 returns-2 c =
     let replied = c .before .before .before .before in
     let planned = replied .before .before .before .before .before in
-    plan-told (planned .before .before .before .if1 .left) (c .before .before .put-reply .ensures) (replied .reply .ensures) (planned .plan .ensures)
+    planning-told (planned .before .before .before .if1 .left) (c .before .before .put-reply .ensures) (planned .plan .result) (replied .reply .ensures) (planned .plan .ensures)
 
 pub trunk-plan-spec : {M : Type 1} → statement M
 trunk-plan-spec =
