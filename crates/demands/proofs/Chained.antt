@@ -22,7 +22,7 @@ use Rattle.mapedit.proofs.Chained.{nothing-else, same-length, passes}
 use Rattle.demands.specs.LinkBytes.{InWord, LinkByte, of-first, of-next}
 
 -- a byte that is none of a word's four lies apart from it
-apart : (at p : ℕ) → ¬ InWord at p → Apart at 4 p
+pub apart : (at p : ℕ) → ¬ InWord at p → Apart at 4 p
 apart at p outside =
     ⊎-elim
     (λ (before : ltb p at ≡ true). inl (ltb-true p at before))

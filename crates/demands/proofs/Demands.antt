@@ -1,6 +1,7 @@
 -- The user's three demands as theorems over the operations' contracts, and what the documents say beside them. Assumes nothing.
 -- The user's words, and the documents', stand in quotes above what says them. The contracts: `Planned` (planner), `Retimed` (retiming),
--- `ChainMaking` (mapedit), `Replayed` (replay) and, for the other operations, the equation of what is told.
+-- `ChainMaking` (mapedit), `Striking` (striking), `Previewed` (planner), `Replayed` (replay) and, for the other operations, the equation of
+-- what is told.
 use mathlib.Core.Path.{_≡_, refl, sym, ap, _∙_}
 use mathlib.Core.Bool.{Bool, true, false}
 use mathlib.Core.List.{List, [], _∷_, _++_}
@@ -20,7 +21,9 @@ use Rattle.replies.specs.declared.Timing.{Timing}
 use Rattle.replies.specs.First.{_at_, firstOf}
 use Rattle.replies.specs.Told.{succeeded, refusedAt, toldCheck, toldName, toldTiming, toldPlan, toldReplaying}
 use Rattle.replies.specs.Pick.{pick}
+use Rattle.roadmap.specs.Format.{roadFrom, roadTo}
 use Rattle.mapcheck.specs.MapCheck.{mapTests, chainingTests, AcceptedMap}
+use Rattle.striking.specs.Striking.{toAt, struck, strikingTests, strikingReply, afterStriking, Striking}
 use Rattle.mapedit.specs.Name.{unknownName, nameReply}
 use Rattle.mapedit.specs.Chaining.{chained, chainingReply, afterChaining, ChainMaking}
 use Rattle.driving.specs.declared.Figures.{Figures}
@@ -32,6 +35,7 @@ use Rattle.replay.specs.InTurn.{noneGoesOn, behind}
 use Rattle.states.specs.declared.State.{State}
 use Rattle.moves.specs.declared.Move.{Move}
 use Rattle.moves.specs.Trip.{Trip, tripOf}
+use Rattle.moves.specs.Opened.{runTests}
 use Rattle.sheets.specs.declared.Heading.{Heading}
 use Rattle.sheets.specs.Sheet.{headingOf, sheetNeeded}
 use Rattle.retiming.specs.Retiming.{movesOn, timing, retimingTests, auditTests, auditReply, Retimed}
@@ -40,17 +44,19 @@ use Rattle.journeys.specs.Journeys.{Journey, totalSeconds}
 use Rattle.states.specs.States.{ranksNoHigher}
 use Rattle.journeys.specs.Labels.{labelCount}
 use Rattle.journeys.specs.Plan.{bytesNeeded}
-use Rattle.journeys.specs.Planning.{beforeSearch, tripFrom, planTests, planReply}
+use Rattle.journeys.specs.Planning.{beforeSearch, tripFrom, searchTests, planTests, planReply, planSheet}
 use Rattle.states.specs.LabelSpace.{labelsThatFit}
 use Rattle.journeys.specs.Compared.{EasierRun}
 use Rattle.retiming.proofs.Audited.{retiming-numbered, audit-numbered}
 use Rattle.journeys.proofs.Journeys.{leads-clock}
 use Rattle.journeys.proofs.Planning.{accepted-sound, sheet-refused, reply-any-fit, sheet-any-fit}
 use Rattle.planner.specs.Planned.{Planned}
+use Rattle.planner.specs.Preview.{closureTests, previewSheet, Previewed}
+use Rattle.planner.proofs.Previewing.{preview-listed}
 use Rattle.demands.specs.Refused.{RepliesBy}
 use Rattle.demands.specs.Counted.{CountsLabels}
 use Rattle.demands.specs.Runs.{AcceptedRun, Plans, SaysFull, SaysNoRoad, movesRead, HoldsJourney, headerAndRecords, TimedAfresh}
-use Rattle.demands.specs.LinkBytes.{LinkByte}
+use Rattle.demands.specs.LinkBytes.{InWord, LinkByte}
 use Rattle.demands.proofs.Refusals.{replies-by, by-number}
 use Rattle.demands.proofs.Counted.{counts-labels}
 use Rattle.demands.proofs.Said.{accepted-by, full-said, full-place, no-road-said, no-road-place, plans-said, short-said}
@@ -61,6 +67,7 @@ use Rattle.demands.proofs.Retimed.{state, same-moves, same-labels, rest
 use Rattle.demands.proofs.Audited.{reached-by, audited-holds, audited-told}
 use Rattle.demands.proofs.Written.{Wrote, wrote, rest-written, length-written, heading-written, holds-journey, none-earlier, none-lower}
 use Rattle.demands.proofs.Afresh.{Afresh, afresh}
+use Rattle.demands.proofs.Struck.{told-struck, leads-back, length-struck, struck-else, still-passes, as-planned, as-refused, no-earlier, never-no-road}
 
 -- DEMAND 1.
 
@@ -119,6 +126,37 @@ module _ {map map′ : List ℕ} {answer : Check} (made : ChainMaking map map′
   -- "and the map passes."
   pub chain-making-passes : toldCheck answer .number ≡ 0 → AcceptedMap map′
   chain-making-passes = chained-passes made
+
+-- Document 02, P6: "Striking a road"
+module _ {map map′ : List ℕ} {road : ℕ} {answer : Check} (run : Striking map road map′ answer) where
+  pub striking-replies : RepliesBy (strikingTests map road) (toldCheck answer)
+  unfolding strikingReply
+  striking-replies = replies-by (strikingTests map road) _ refl tt (run .reply)
+
+  -- a refusal changes no map byte
+  pub striking-leaves : ¬ (toldCheck answer .number ≡ 0) → map′ ≡ map
+  unfolding afterStriking
+  striking-leaves refused = run .bytes ∙ ap (λ (b : Bool). pick b (struck map road) map) (ne-eqb _ _ (λ e. refused (ap (λ (r : Reply). r .number) (run .reply) ∙ e)))
+
+  -- "sets its to-junction to its from-junction in the map,"
+  pub striking-loops : toldCheck answer .number ≡ 0 → roadTo map′ road ≡ roadFrom map road
+  striking-loops = leads-back run
+
+  -- "changes nothing else": the map keeps its length, and every byte that is none of that to-junction's four
+  pub striking-length : length map′ ≡ length map
+  striking-length = by-number (toldCheck answer .number) (length-struck run) (λ refused. ap length (striking-leaves refused))
+
+  pub striking-keeps : (p : ℕ) → ¬ InWord (toAt map road) p → getD map′ p 0 ≡ getD map p 0
+  striking-keeps p outside =
+      by-number (toldCheck answer .number) (λ done. struck-else run done p outside) (λ refused. ap (λ (s : List ℕ). getD s p 0) (striking-leaves refused))
+
+  -- "and replies 0, 0, 0."
+  pub striking-tells : toldCheck answer .number ≡ 0 → toldCheck answer ≡ succeeded 0 0
+  striking-tells = told-struck run
+
+  -- the map still passes the map check
+  pub striking-passes : toldCheck answer .number ≡ 0 → AcceptedMap map′
+  striking-passes = still-passes run
 
 -- Document 02, P3: "We want them replayed from a trace"; P5: "The mark joins the lent figures and starts as lent."
 module _ {trace : List ℕ} {rules : Rules} {before after : Figures} {answer : Replaying} (replayed : Replayed trace rules before after answer) where
@@ -324,3 +362,45 @@ any-label-space {map} {order} {sheet = sheet} run₁ run₂ not-full₁ not-full
     let one = not-full-told run₁ not-full₁ in
     let two = not-full-told run₂ not-full₂ in
     (run₁ .reply ∙ reply-any-fit map order _ _ (length sheet) one two ∙ sym (run₂ .reply), run₁ .bytes ∙ sheet-any-fit map order _ _ sheet one two ∙ sym (run₂ .bytes))
+
+-- PREVIEW OF A CLOSURE. Document 02, P6.
+
+module _ {map order : List ℕ} {road : ℕ} {words words′ sheet sheet′ : List ℕ} {answer : Planning} (run : Previewed map order road words words′ sheet sheet′ answer) where
+  -- the refusals in order: 1 to 11, "24 unknown road .. after 11 in the preview", then 12 to 14 of the map so struck
+  pub preview-replies : RepliesBy (closureTests map order road ++ searchTests (tripFrom (struck map road) order) (labelsThatFit (length words)) (length sheet)) (toldPlan answer)
+  preview-replies = replies-by (closureTests map order road ++ searchTests (tripFrom (struck map road) order) (labelsThatFit (length words)) (length sheet)) _ refl tt (run .reply ∙ preview-listed map order road words sheet)
+
+  -- a refusal leaves the sheet's bytes untouched, and one before the search every word of the label space
+  pub preview-leaves : ¬ Plans answer → sheet′ ≡ sheet
+  unfolding previewSheet
+  preview-leaves refused = run .bytes ∙ rw (ne-eqb _ _ (λ e. refused (ap (λ (r : Reply). r .number) (run .reply) ∙ e))) refl
+
+  pub preview-leaves-labels : T (memb eqb (toldPlan answer .number) beforeSearch) → words′ ≡ words
+  preview-leaves-labels = run .kept
+
+  -- "The preview answers and writes exactly what planning would on a copy so struck": where the copy is struck, a run of the preview is a run of
+  -- planning on it, so demands 1 to 3 hold of it as of planning there
+  module _ {map′ : List ℕ} {check : Check} (striking : Striking map road map′ check) where
+    pub preview-is-planning : toldCheck check .number ≡ 0 → Planned map′ order words words′ sheet sheet′ answer
+    preview-is-planning done = as-planned striking done run
+
+    -- so every run of planning there with as much label space has the same reply and every byte of the sheet
+    pub preview-as-planning : toldCheck check .number ≡ 0 → {words₂ words₂′ sheet₂′ : List ℕ} {planning : Planning} → length words₂ ≡ length words
+        → Planned map′ order words₂ words₂′ sheet sheet₂′ planning → (toldPlan answer ≡ toldPlan planning) × (sheet′ ≡ sheet₂′)
+    preview-as-planning done room planned =
+        let here = preview-is-planning done in (
+          here .reply ∙ ap (λ (n : ℕ). planReply map′ order (labelsThatFit n) (length sheet)) (sym room) ∙ sym (planned .reply),
+          here .bytes ∙ ap (λ (n : ℕ). planSheet map′ order (labelsThatFit n) sheet) (sym room) ∙ sym (planned .bytes),
+        )
+
+    -- and where striking is refused so is the preview, an order's faults before the road's
+    pub preview-refused : ¬ (toldCheck check .number ≡ 0) → toldPlan answer ≡ firstOf (runTests map order) (toldCheck check)
+    preview-refused refused = as-refused striking refused run
+
+  -- beside planning on the lent map, with any label space and sheet: a closure makes no plan earlier, and opens no road
+  module _ {words₁ words₁′ sheet₁ sheet₁′ : List ℕ} {planning : Planning} (lent : Planned map order words₁ words₁′ sheet₁ sheet₁′ planning) where
+    pub preview-no-earlier : Plans planning → Plans answer → toldPlan planning .arrival ≤ toldPlan answer .arrival
+    preview-no-earlier planned previewed = no-earlier run previewed lent planned
+
+    pub preview-no-road : SaysNoRoad planning → ¬ Plans answer
+    preview-no-road no-road previewed = never-no-road run previewed lent no-road

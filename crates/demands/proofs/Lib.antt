@@ -10,4 +10,5 @@ pub mod Retimed
 pub mod Audited
 pub mod Written
 pub mod Afresh
+pub mod Struck
 pub mod Demands
