@@ -25,8 +25,8 @@
  *
  * Stack, measured with the library of this version. In its machine code frames are fixed and nothing recurses, and no
  * path through it reserves a hundred bytes more, the C library's memset aside:
- *     trunk_plan                201,399 bytes; leave TRUNK_PLAN_STACK_BYTES, 256 KiB
- *     every other function at most 49,831 bytes; leave TRUNK_STACK_BYTES, 64 KiB
+ *     trunk_plan and trunk_preview  201,399 bytes; leave TRUNK_PLAN_STACK_BYTES, 256 KiB
+ *     every other function   at most 49,831 bytes; leave TRUNK_STACK_BYTES, 64 KiB
  * The main thread (8 MiB as a rule) and threads of glibc and Rust with their usual size have enough.
  */
 #ifndef TRUNK_H
@@ -47,7 +47,7 @@ enum {
     TRUNK_MOST_MAP_BYTES = 16 + 16 * TRUNK_MOST_JUNCTIONS + 20 * TRUNK_MOST_ROADS + TRUNK_MOST_NAME_BYTES,
     TRUNK_ORDER_BYTES = 48,          /* twelve words */
     TRUNK_LABEL_WORDS = 9,           /* of label space */
-    TRUNK_PLAN_STACK_BYTES = 262144, /* trunk_plan */
+    TRUNK_PLAN_STACK_BYTES = 262144, /* trunk_plan and trunk_preview */
     TRUNK_STACK_BYTES = 65536,       /* every other function */
 };
 
@@ -99,7 +99,8 @@ enum trunk_number {
     TRUNK_UNKNOWN_NAME = 20,  /* no such junction: the junction asked */
     TRUNK_TORN_TRACE = 21,    /* the trace's length is not a multiple of 8: its length */
     TRUNK_ODD_RECORD = 22,    /* a record's activity or seconds out of range: which record, from 1 */
-    TRUNK_PAST_LIMIT = 23     /* driving that takes a figure over its limit: which record, from 1 */
+    TRUNK_PAST_LIMIT = 23,    /* driving that takes a figure over its limit: which record, from 1 */
+    TRUNK_UNKNOWN_ROAD = 24   /* no such road: the road asked */
 };
 
 /* Map check. Reads the map. Refuses 1 to 8; success is 0, 0, 0. */
@@ -177,6 +178,26 @@ void trunk_replay(const uint8_t *trace, size_t trace_length,
                   const uint32_t *rules, size_t rule_count,
                   uint32_t *figures, size_t figure_count,
                   uint64_t *reply, size_t reply_count);
+
+/* Striking a road, as for a closure. Sets the road's to-junction in the map to its from-junction, so that it leads
+ * nowhere; roads count from 1. Changes nothing else: the road stays on its chain, and the map passes the map check as
+ * before. A road that leads back already is struck without a change. Refuses 1 to 8, 24. Success is 0, 0, 0. Nothing tells
+ * afterwards where the road led, so keep a copy of the map for the end of the closure. */
+void trunk_strike(uint8_t *map, size_t map_length,
+                  uint32_t road,
+                  uint64_t *reply, size_t reply_count);
+
+/* Preview of a closure: the plan that there would be without this road. Answers and writes exactly what trunk_plan would
+ * with a copy of the map in which trunk_strike has struck the road, and only reads the map: it needs no copy, and the map
+ * keeps all its bytes. Words and sheet are lent as for trunk_plan. Refuses 1 to 11, which judge the map as it is, 24, then
+ * 12 to 14 of the trip without the road; 1 to 11 and 24 leave the words as they were. Success is that of trunk_plan: 0, the
+ * number of labels, the arrival. */
+void trunk_preview(const uint8_t *map, size_t map_length,
+                   const uint8_t *order, size_t order_length,
+                   uint32_t road,
+                   uint32_t *words, size_t word_count,
+                   uint8_t *sheet, size_t sheet_length,
+                   uint64_t *reply, size_t reply_count);
 
 #ifdef __cplusplus
 }

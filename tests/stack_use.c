@@ -1,6 +1,7 @@
 /* Measures the stack that each call of the library takes, and fails where it is more than include/trunk.h says: the
  * bytes below its caller that a call changes. Frames are fixed and nothing recurses, so that a small map and the largest
- * one, planned, retimed and refused, and a trace replayed and refused tell all. After `rt staticlib trunk`:
+ * one, planned, previewed, retimed, struck and refused, and a trace replayed and refused tell all. After
+ * `rt staticlib trunk`:
  *     cc -O2 -pthread -Iinclude tests/stack_use.c target/staticlib/libtrunk.a -o target/stack_use && target/stack_use */
 #define _XOPEN_SOURCE 600 /* pthread_attr_setstack */
 #include <pthread.h>
@@ -10,12 +11,13 @@
 #include "trunk.h"
 
 enum { LABELS = 45000, SHEET_BYTES = 20 + 12 * LABELS, STACK_BYTES = 4 << 20 };
+enum { CLOSED_ROAD = 1 }; /* from junction 1 to 2, where the trips start: none drives it */
 
 static uint8_t map[TRUNK_MOST_MAP_BYTES], order[TRUNK_ORDER_BYTES], sheet[SHEET_BYTES], out[SHEET_BYTES];
 static size_t map_length, sheet_length;
 static uint32_t words[TRUNK_LABEL_WORDS * LABELS];
 static uint64_t reply[3], part[2];
-static int plans; /* sheets planned, so that calls which only refuse do not pass for a measurement */
+static int plans, previews, strikes; /* that succeed, so that calls which only refuse do not pass for a measurement */
 
 /* A day that uses up the hours of a driver who comes from a rest: replayed again it is refused, and leaves the figures. */
 enum { DAY_RECORDS = 6, SPELL_LIMIT = 16200, SHIFT_LIMIT = 32400 };
@@ -33,6 +35,11 @@ static void check_order(void) { trunk_check_order(order, sizeof order, 3, reply,
 static void plan(void) {
     trunk_plan(map, map_length, order, sizeof order, words, TRUNK_LABEL_WORDS * LABELS, sheet, SHEET_BYTES, reply, 3);
 }
+static void preview(void) {
+    trunk_preview(map, map_length, order, sizeof order, CLOSED_ROAD, words, TRUNK_LABEL_WORDS * LABELS, out, SHEET_BYTES,
+                  reply, 3);
+}
+static void strike(void) { trunk_strike(map, map_length, CLOSED_ROAD, reply, 3); }
 static void retime(void) {
     trunk_retime(map, map_length, order, sizeof order, sheet, sheet_length, out, SHEET_BYTES, reply, 3);
 }
@@ -43,7 +50,7 @@ static void replay(void) {
     trunk_replay(trace, sizeof trace, rules, TRUNK_RULE_WORDS, figures, TRUNK_FIGURE_WORDS, reply, 3);
 }
 
-/* Chains are made before the map is checked, and a plan before it is retimed and audited. */
+/* Chains are made before the map is checked, a plan before it is retimed and audited, and the road is struck last. */
 static struct {
     const char *name;
     void (*call)(void);
@@ -53,10 +60,12 @@ static struct {
     {"trunk_check_map", check_map, TRUNK_STACK_BYTES, 0},
     {"trunk_check_order", check_order, TRUNK_STACK_BYTES, 0},
     {"trunk_plan", plan, TRUNK_PLAN_STACK_BYTES, 0},
+    {"trunk_preview", preview, TRUNK_PLAN_STACK_BYTES, 0},
     {"trunk_retime", retime, TRUNK_STACK_BYTES, 0},
     {"trunk_audit", audit, TRUNK_STACK_BYTES, 0},
     {"trunk_name", name, TRUNK_STACK_BYTES, 0},
     {"trunk_replay", replay, TRUNK_STACK_BYTES, 0},
+    {"trunk_strike", strike, TRUNK_STACK_BYTES, 0},
 };
 enum { CALLS = sizeof calls / sizeof *calls };
 
@@ -114,6 +123,8 @@ static void measure(void) {
             size_t bytes = changed_by(calls[c].call, fillings[f]);
             calls[c].bytes = bytes > calls[c].bytes ? bytes : calls[c].bytes;
         }
+        previews += calls[c].call == preview && reply[0] == TRUNK_DONE;
+        strikes += calls[c].call == strike && reply[0] == TRUNK_DONE;
         if (calls[c].call == plan && reply[0] == TRUNK_DONE) {
             plans++;
             sheet_length = 20 + 12 * (size_t)(sheet[0] | sheet[1] << 8 | sheet[2] << 16 | sheet[3] << 24);
@@ -131,7 +142,8 @@ int main(void) {
         make_map(TRUNK_MOST_JUNCTIONS, TRUNK_MOST_ROADS, TRUNK_MOST_NAME_BYTES);
         measure();
     }
-    int failed = plans != 6 || figures[0] != SPELL_LIMIT || figures[1] != SHIFT_LIMIT || figures[2] != 0;
+    int failed = plans != 6 || previews != 6 || strikes != 8;
+    failed |= figures[0] != SPELL_LIMIT || figures[1] != SHIFT_LIMIT || figures[2] != 0;
     for (int c = 0; c < CALLS; c++) {
         printf("%-17s %7zu bytes of stack\n", calls[c].name, calls[c].bytes);
         failed |= calls[c].bytes > calls[c].enough;

@@ -8,8 +8,8 @@
 //! A road takes 18 × metres / (5 × km per hour) seconds, to the nearest second, an exact half to the even one, and never
 //! below 1.
 //!
-//! [`plan`] needs [`PLAN_STACK_BYTES`] of stack and every other call [`STACK_BYTES`], whatever the map. Threads of the
-//! standard library have 2 MiB unless they are given less.
+//! [`plan`] and [`preview`] need [`PLAN_STACK_BYTES`] of stack and every other call [`STACK_BYTES`], whatever the map.
+//! Threads of the standard library have 2 MiB unless they are given less.
 #![warn(missing_docs)]
 
 use std::fmt;
@@ -24,9 +24,9 @@ pub const MOST_NAME_BYTES: usize = 1_048_576;
 pub const MOST_MAP_BYTES: usize = 16 + 16 * MOST_JUNCTIONS + 20 * MOST_ROADS + MOST_NAME_BYTES;
 /// The length of an order: twelve words.
 pub const ORDER_BYTES: usize = 48;
-/// The words of a label in the label space of [`plan`].
+/// The words of a label in the label space of [`plan`] and [`preview`].
 pub const LABEL_WORDS: usize = 9;
-/// The stack to leave for [`plan`].
+/// The stack to leave for [`plan`] and [`preview`].
 pub const PLAN_STACK_BYTES: usize = 256 * 1024;
 /// The stack to leave for every other call.
 pub const STACK_BYTES: usize = 64 * 1024;
@@ -127,6 +127,26 @@ mod raw {
             reply: *mut u64,
             reply_count: usize,
         );
+        pub fn trunk_strike(
+            map: *mut u8,
+            map_length: usize,
+            road: u32,
+            reply: *mut u64,
+            reply_count: usize,
+        );
+        pub fn trunk_preview(
+            map: *const u8,
+            map_length: usize,
+            order: *const u8,
+            order_length: usize,
+            road: u32,
+            words: *mut u32,
+            word_count: usize,
+            sheet: *mut u8,
+            sheet_length: usize,
+            reply: *mut u64,
+            reply_count: usize,
+        );
     }
 }
 
@@ -181,10 +201,12 @@ pub enum Refusal {
     OddRecord,
     /// Driving that takes a figure over its limit. Place: which record, from 1.
     PastLimit,
+    /// There is no such road. Place: the road asked.
+    UnknownRoad,
 }
 
 impl Refusal {
-    const ALL: [Refusal; 23] = [
+    const ALL: [Refusal; 24] = [
         Refusal::ShortMap,
         Refusal::StrangeMap,
         Refusal::Oversize,
@@ -208,6 +230,7 @@ impl Refusal {
         Refusal::TornTrace,
         Refusal::OddRecord,
         Refusal::PastLimit,
+        Refusal::UnknownRoad,
     ];
 
     /// The refusal's number in documents 01 and 02.
@@ -326,6 +349,13 @@ impl Reply {
             }),
         }
     }
+
+    fn planned(self) -> Planned {
+        Planned {
+            labels: self.place,
+            arrival: self.arrival,
+        }
+    }
 }
 
 /// Lends three numbers to a call and reads the reply from them.
@@ -385,10 +415,7 @@ pub fn plan(
             count,
         )
     })?;
-    Ok(Planned {
-        labels: reply.place,
-        arrival: reply.arrival,
-    })
+    Ok(reply.planned())
 }
 
 /// Retiming: writes the moves of a sheet with their true figures to another sheet. Refusals 1 to 11, 15, 16 and 17 move
@@ -504,6 +531,47 @@ pub fn replay(trace: &[u8], rules: Rules, figures: &mut Figures) -> Result<Repla
     Ok(Replayed {
         records: answer?.place,
     })
+}
+
+/// Striking a road, as for a closure: sets its to-junction to its from-junction, and nothing else. Roads count from 1.
+/// Refusals 1 to 8, 24.
+///
+/// The map passes the map check as before. Nothing tells afterwards where the road led.
+pub fn strike(map: &mut [u8], road: u32) -> Result<(), Refused> {
+    replied(|reply, count| unsafe {
+        raw::trunk_strike(map.as_mut_ptr(), map.len(), road, reply, count)
+    })?;
+    Ok(())
+}
+
+/// Preview of a closure: answers and writes exactly what [`plan`] would with a copy of the map in which [`strike`] has
+/// struck the road. The map itself is only read. Refusals 1 to 11, which judge the map as it is, 24, then 12 to 14 of the
+/// trip without the road.
+///
+/// `words` and `sheet` are those of [`plan`]; refusals 1 to 11 and 24 leave the words.
+pub fn preview(
+    map: &[u8],
+    order: &[u8],
+    road: u32,
+    words: &mut [u32],
+    sheet: &mut [u8],
+) -> Result<Planned, Refused> {
+    let reply = replied(|reply, count| unsafe {
+        raw::trunk_preview(
+            map.as_ptr(),
+            map.len(),
+            order.as_ptr(),
+            order.len(),
+            road,
+            words.as_mut_ptr(),
+            words.len(),
+            sheet.as_mut_ptr(),
+            sheet.len(),
+            reply,
+            count,
+        )
+    })?;
+    Ok(reply.planned())
 }
 
 #[cfg(test)]

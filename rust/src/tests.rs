@@ -1,4 +1,6 @@
-//! Document 01's trial trips, a refusal of each call, the largest map and replayed traces, through the library.
+//! Document 01's trial trips, a refusal of each call, the largest map, replayed traces and closures, through the library.
+mod closures;
+
 use super::*;
 
 const NAMES: &[u8] = b"HubLayEnd";
@@ -337,6 +339,23 @@ fn the_largest_map_passes_and_plans() {
     assert_eq!(audit(&map, &order, &sheet), timed);
 }
 
+/// The ring's last road is the only one that leads to the target in time; all other junctions are reached.
+#[test]
+fn the_largest_map_is_previewed_and_struck() {
+    let mut map = ring_map(MOST_JUNCTIONS as u32, MOST_ROADS as u32);
+    let order = ring_order();
+    let mut words = vec![7; LABEL_WORDS * 12_288];
+    let none = refused(Refusal::NoRoad, 12_287);
+    assert_eq!(preview(&map, &order, 40_960, &mut words, &mut []), none);
+    assert_eq!(
+        strike(&mut map, 40_961),
+        refused(Refusal::UnknownRoad, 40_961)
+    );
+    assert_eq!(strike(&mut map, 40_960), Ok(()));
+    assert_eq!(check_map(&map), Ok(()));
+    assert_eq!(plan(&map, &order, &mut words, &mut []), none);
+}
+
 #[test]
 fn one_junction_or_road_too_many_is_oversize() {
     for (junctions, roads, place) in [(12_289, 40_960, 4), (12_288, 40_961, 8)] {
@@ -383,10 +402,28 @@ fn the_header_has_the_same_figures() {
     }
 }
 
+/// `TRUNK_SHORT_MAP` for `ShortMap`.
+fn name_in_c(refusal: Refusal) -> String {
+    let mut name = "TRUNK".to_string();
+    for letter in format!("{refusal:?}").chars() {
+        if letter.is_uppercase() {
+            name.push('_');
+        }
+        name.extend(letter.to_uppercase());
+    }
+    name
+}
+
 #[test]
 fn numbers_are_the_documents() {
     for (i, refusal) in Refusal::ALL.into_iter().enumerate() {
         assert_eq!(refusal.number(), i as u64 + 1);
+    }
+    let header = include_str!("../../include/trunk.h");
+    for refusal in Refusal::ALL {
+        let name = name_in_c(refusal);
+        let number = refusal.number();
+        assert!(header.contains(&format!(" {name} = {number}")), "{name}");
     }
     let full = Refused {
         refusal: Refusal::Full,
