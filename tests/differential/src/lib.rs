@@ -2,21 +2,21 @@
 
 use other::operations::{LentFigures, LentRules, NameAnswer, Operations};
 use other::reply::Reply;
-use trunk::{Figures, Refused, Rules, Timed};
+use trunk::{Figures, Planned, Refused, Rules, Timed};
 
 pub const LIBRARY: Operations = Operations {
     check_map: |map| told(trunk::check_map(map), |()| (0, 0)),
     check_order: |order, junctions| told(trunk::check_order(order, junctions), |()| (0, 0)),
-    plan: |map, order, words, sheet| {
-        told(trunk::plan(map, order, words, sheet), |planned| {
-            (planned.labels, planned.arrival)
-        })
-    },
+    plan: |map, order, words, sheet| told(trunk::plan(map, order, words, sheet), planned),
     retime: |map, order, sheet, out| told(trunk::retime(map, order, sheet, out), timed),
     audit: |map, order, sheet| told(trunk::audit(map, order, sheet), timed),
     name: named,
     make_chains: |map| told(trunk::make_chains(map), |()| (0, 0)),
     replay: replayed,
+    strike: |map, road| told(trunk::strike(map, road), |()| (0, 0)),
+    preview: |map, order, road, words, sheet| {
+        told(trunk::preview(map, order, road, words, sheet), planned)
+    },
 };
 
 /// Place and arrival of a success, or the refusal.
@@ -28,6 +28,10 @@ fn told<T>(answer: Result<T, Refused>, figures: impl FnOnce(T) -> (u64, u64)) ->
         }
         Err(refused) => Reply::refused(refused.refusal.number(), refused.place),
     }
+}
+
+fn planned(planned: Planned) -> (u64, u64) {
+    (planned.labels, planned.arrival)
 }
 
 fn timed(timed: Timed) -> (u64, u64) {

@@ -2,6 +2,7 @@
 
 use std::collections::BTreeSet;
 
+use crate::closure_probes;
 use crate::make::orders::MOST_STATES;
 use crate::make::random::Random;
 use crate::make::traces::Replay;
@@ -56,6 +57,7 @@ pub fn probes(trusted: &Operations, case: &Case, random: &mut Random) -> Vec<Pro
         probes.extend(plan_probes(trusted, run, random));
     }
     probes.extend(case.replays.iter().map(Replay::probe));
+    probes.extend(closure_probes::probes(trusted, case, random));
     probes
 }
 

@@ -1,5 +1,7 @@
-//! Laws between replies of one implementation: label space is free, demand 3, and a trace may be
-//! replayed in two parts.
+//! Laws between replies of one implementation: label space is free, demand 3, a trace may be
+//! replayed in two parts, and what a closure changes.
+
+mod closures;
 
 use crate::case_probes::{ample_plan, label_count, marked_words, AMPLE_WORDS};
 use crate::make::random::Random;
@@ -23,6 +25,9 @@ pub fn obeyed(operations: &Operations, case: &Case, random: &mut Random) -> Resu
     }
     for replay in &case.replays {
         two_parts_are_one(operations, replay, random)?;
+    }
+    for closure in &case.closures {
+        closures::obeyed(operations, closure, random)?;
     }
     Ok(())
 }

@@ -2,6 +2,7 @@
 
 pub mod case_probes;
 pub mod chains;
+pub mod closure_probes;
 pub mod compare;
 pub mod equal_clocks;
 pub mod laws;
@@ -24,6 +25,7 @@ pub mod retiming;
 pub mod self_test;
 pub mod sheet;
 pub mod special;
+pub mod striking;
 pub mod summary;
 pub mod trials;
 pub mod words;

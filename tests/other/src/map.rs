@@ -119,6 +119,12 @@ impl Map {
         &self.roads[number as usize - 1]
     }
 
+    /// Lets a road, of a number counted from 1, lead back to where it begins.
+    pub fn strike(&mut self, number: u64) {
+        let road = &mut self.roads[number as usize - 1];
+        road.to = road.from;
+    }
+
     /// Lets each chain rise through all its junction's roads. Every from must be a junction.
     pub fn link_chains(&mut self) {
         for junction in &mut self.junctions {

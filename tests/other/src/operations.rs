@@ -5,13 +5,16 @@ use crate::moves::Document;
 use crate::planning::plan;
 use crate::replay::replay;
 use crate::reply::Reply;
-use crate::{chains, mapcheck, names, order, retiming};
+use crate::{chains, mapcheck, names, order, retiming, striking};
 
 /// The reply, and the name's offset in the map and its length; both 0 beside a refusal.
 pub type NameAnswer = (Reply, usize, usize);
 
 /// Takes map, order, label words and sheet.
 pub type PlanFunction = fn(&[u8], &[u8], &mut [u32], &mut [u8]) -> Reply;
+
+/// Takes map, order, road, label words and sheet. The map is only read; whoever writes it all the same shall be seen.
+pub type PreviewFunction = fn(&mut [u8], &[u8], u32, &mut [u32], &mut [u8]) -> Reply;
 
 /// Takes map, order, sheet and the other sheet.
 pub type RetimeFunction = fn(&[u8], &[u8], &[u8], &mut [u8]) -> Reply;
@@ -35,6 +38,8 @@ pub struct Operations {
     pub name: fn(map: &[u8], junction: u32) -> NameAnswer,
     pub make_chains: fn(map: &mut [u8]) -> Reply,
     pub replay: ReplayFunction,
+    pub strike: fn(map: &mut [u8], road: u32) -> Reply,
+    pub preview: PreviewFunction,
 }
 
 /// The documents' operations, as written here.
@@ -47,4 +52,6 @@ pub const DOCUMENT: Operations = Operations {
     name: names::name,
     make_chains: chains::make_chains,
     replay: replay::<Document>,
+    strike: striking::strike,
+    preview: |map, order, road, labels, sheet| striking::preview(map, order, road, labels, sheet),
 };

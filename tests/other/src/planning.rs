@@ -131,6 +131,16 @@ pub fn undominated<P: Planner>(reachable: &BTreeSet<State>) -> Vec<State> {
     kept
 }
 
+/// The records of a trip's plan, however many labels it needs; none where there is no journey.
+pub fn records_of<P: Planner>(trip: &Trip) -> Vec<Record> {
+    let reachable = reachable_states::<P>(trip);
+    let Some(answer) = answer_of::<P>(trip, &reachable) else {
+        return Vec::new();
+    };
+    let labels = labels_of::<P>(&reachable, Some(answer));
+    plan_records::<P>(trip, &labels, answer)
+}
+
 /// The plan's records in travelling order: parents are followed back from the answer.
 fn plan_records<P: Planner>(trip: &Trip, labels: &[State], answer: &State) -> Vec<Record> {
     let mut records = Vec::new();

@@ -3,7 +3,7 @@
 use crate::lent::Lent;
 use crate::make::Run;
 use crate::operations::{LentFigures, LentRules, Operations};
-use crate::reply::{Reply, BAD_TRIP};
+use crate::reply::Reply;
 
 /// One call. The bytes and words lent for writing hold marks beforehand.
 #[derive(Clone, Debug)]
@@ -41,6 +41,16 @@ pub enum Probe {
         rules: LentRules,
         figures: LentFigures,
     },
+    Strike {
+        map: Vec<u8>,
+        road: u32,
+    },
+    Preview {
+        run: Run,
+        road: u32,
+        labels: Vec<u32>,
+        sheet: Vec<u8>,
+    },
 }
 
 /// What a call leaves: the documents fix all of it.
@@ -53,6 +63,8 @@ pub struct Answer {
     pub written: Vec<u8>,
     /// False where label words changed although the search had not begun.
     pub labels_kept: bool,
+    /// False where a preview changed the map.
+    pub map_kept: bool,
     /// False where bytes or words around the lent ones changed.
     pub margins_kept: bool,
 }
@@ -64,6 +76,7 @@ impl Answer {
             part: (0, 0),
             written: Vec::new(),
             labels_kept: true,
+            map_kept: true,
             margins_kept: true,
         }
     }
@@ -99,21 +112,54 @@ pub fn answer(operations: &Operations, probe: &Probe) -> Answer {
             rules,
             figures,
         } => answer_replay(operations, trace, *rules, figures),
+        Probe::Strike { map, road } => {
+            let mut lent = Lent::new(map, 0xA5);
+            let reply = (operations.strike)(lent.content(), *road);
+            written(reply, lent)
+        }
+        Probe::Preview {
+            run,
+            road,
+            labels,
+            sheet,
+        } => answer_preview(operations, run, *road, labels, sheet),
     }
 }
 
 fn answer_plan(operations: &Operations, run: &Run, labels: &[u32], sheet: &[u8]) -> Answer {
+    answer_search(labels, sheet, |labels, sheet| {
+        (operations.plan)(&run.map, &run.order, labels, sheet)
+    })
+}
+
+fn answer_preview(
+    operations: &Operations,
+    run: &Run,
+    road: u32,
+    labels: &[u32],
+    sheet: &[u8],
+) -> Answer {
+    let mut map = Lent::new(&run.map, 0xA5);
+    let answer = answer_search(labels, sheet, |labels, sheet| {
+        (operations.preview)(map.content(), &run.order, road, labels, sheet)
+    });
+    Answer {
+        map_kept: map.is_unchanged(),
+        ..answer
+    }
+}
+
+/// What a search leaves that is lent these labels and this sheet.
+fn answer_search(
+    labels: &[u32],
+    sheet: &[u8],
+    search: impl FnOnce(&mut [u32], &mut [u8]) -> Reply,
+) -> Answer {
     let mut lent_labels = Lent::new(labels, 0xA5A5_A5A5);
     let mut lent_sheet = Lent::new(sheet, 0xA5);
-    let reply = (operations.plan)(
-        &run.map,
-        &run.order,
-        lent_labels.content(),
-        lent_sheet.content(),
-    );
-    let searched = reply.number == 0 || reply.number > BAD_TRIP;
+    let reply = search(lent_labels.content(), lent_sheet.content());
     Answer {
-        labels_kept: searched || lent_labels.is_unchanged(),
+        labels_kept: !reply.is_before_search() || lent_labels.is_unchanged(),
         margins_kept: lent_labels.margins_kept() && lent_sheet.margins_kept(),
         ..written(reply, lent_sheet)
     }

@@ -23,6 +23,11 @@ impl Reply {
             arrival: 0,
         }
     }
+
+    /// Whether planning or a preview refused before its search, and so leaves the label space as it was.
+    pub fn is_before_search(&self) -> bool {
+        matches!(self.number, SHORT_MAP..=BAD_TRIP | UNKNOWN_ROAD)
+    }
 }
 
 /// The reply of a judgement that carries its refusal as an error.
@@ -53,3 +58,4 @@ pub const UNKNOWN_NAME: u64 = 20;
 pub const TORN_TRACE: u64 = 21;
 pub const ODD_RECORD: u64 = 22;
 pub const PAST_LIMIT: u64 = 23;
+pub const UNKNOWN_ROAD: u64 = 24;

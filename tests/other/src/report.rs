@@ -17,6 +17,8 @@ impl Probe {
             Probe::Name { .. } => "name",
             Probe::MakeChains { .. } => "make chains",
             Probe::Replay { .. } => "replay",
+            Probe::Strike { .. } => "strike",
+            Probe::Preview { .. } => "preview",
         }
     }
 
@@ -56,6 +58,21 @@ impl Probe {
                 let _ = writeln!(text, "rules: {rules:?}");
                 let _ = writeln!(text, "figures before: {figures:?}");
             }
+            Probe::Strike { map, road } => {
+                show(&mut text, "map", map);
+                let _ = writeln!(text, "road: {road}");
+            }
+            Probe::Preview {
+                run,
+                road,
+                labels,
+                sheet,
+            } => {
+                show_run(&mut text, run);
+                let _ = writeln!(text, "road: {road}");
+                let _ = writeln!(text, "label words: {}", labels.len());
+                show(&mut text, "sheet before", sheet);
+            }
         }
         text
     }
@@ -73,6 +90,7 @@ impl Answer {
         let _ = writeln!(text, "part: {length} bytes at {offset}");
         show(&mut text, "written", &self.written);
         let _ = writeln!(text, "labels kept before the search: {}", self.labels_kept);
+        let _ = writeln!(text, "map kept by a preview: {}", self.map_kept);
         let _ = writeln!(text, "margins kept: {}", self.margins_kept);
         text
     }

@@ -38,6 +38,11 @@ fn largest_map_probes() -> Vec<Probe> {
         Probe::MakeChains {
             map: off_its_chain.bytes(),
         },
+        Probe::Strike {
+            map: sound.bytes(),
+            road: MOST_ROADS as u32,
+        },
+        preview_of_the_last_road(sound.bytes()),
         Probe::Name {
             map: sound.bytes(),
             junction: MOST_JUNCTIONS as u32,
@@ -57,7 +62,12 @@ fn oversize_map_probes() -> Vec<Probe> {
         [
             Probe::CheckMap { map: map.clone() },
             Probe::MakeChains { map: map.clone() },
-            plan_to_the_last_junction(map),
+            Probe::Strike {
+                map: map.clone(),
+                road: MOST_ROADS as u32,
+            },
+            plan_to_the_last_junction(map.clone()),
+            preview_of_the_last_road(map),
         ]
     };
     [
@@ -99,13 +109,29 @@ fn wide_map(junctions: u64, roads: u64) -> Map {
 
 /// In the largest map two drives, by roads 32,769 and 40,960: 8,192 metres and 1 metre.
 fn plan_to_the_last_junction(map: Vec<u8>) -> Probe {
-    let order = Order {
+    plan_with_ample_space(map, &order_to_the_last_junction())
+}
+
+fn order_to_the_last_junction() -> Order {
+    Order {
         source: 8_194,
         target: MOST_JUNCTIONS,
-        latest: 1_500,
+        latest: 1_000,
         ..european_order()
-    };
-    plan_with_ample_space(map, &order)
+    }
+}
+
+/// With the last road struck, road 28,672 takes its place: 12,289 metres.
+fn preview_of_the_last_road(map: Vec<u8>) -> Probe {
+    Probe::Preview {
+        run: Run {
+            map,
+            order: order_to_the_last_junction().bytes(),
+        },
+        road: MOST_ROADS as u32,
+        labels: vec![0xA5A5_A5A5; AMPLE_WORDS],
+        sheet: vec![0xEE; 1_000],
+    }
 }
 
 fn plan_with_ample_space(map: Vec<u8>, order: &Order) -> Probe {

@@ -10,11 +10,11 @@ use crate::make::{case, Run};
 use crate::moves::{DRIVE, SECOND};
 use crate::operations::{LentRules, DOCUMENT};
 use crate::probe::{answer, Answer, Probe};
-use crate::reply::PAST_LIMIT;
+use crate::reply::UNKNOWN_ROAD;
 use crate::sheet::{sheet_bytes, Sheet};
 use crate::words::word;
 
-const OPERATIONS: [&str; 8] = [
+const OPERATIONS: [&str; 10] = [
     "check map",
     "check order",
     "plan",
@@ -23,6 +23,8 @@ const OPERATIONS: [&str; 8] = [
     "name",
     "make chains",
     "replay",
+    "strike",
+    "preview",
 ];
 
 #[derive(Default)]
@@ -111,7 +113,7 @@ impl Summary {
             let _ = write!(text, "{operation:>12}");
         }
         text.push('\n');
-        for number in 0..=PAST_LIMIT {
+        for number in 0..=UNKNOWN_ROAD {
             let _ = write!(text, "{number:>7}");
             for operation in OPERATIONS {
                 let times = self.replies.get(&(number, operation)).unwrap_or(&0);

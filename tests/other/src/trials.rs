@@ -6,6 +6,9 @@ use crate::reply::Reply;
 use crate::report::hexadecimal;
 use crate::words::word;
 
+/// What the label words of a preview hold beforehand; the case's number is its road.
+const MARKED_WORD: u32 = 0xEEEE_EEEE;
+
 /// One line for each case, as the program must print it.
 pub fn answers(mut stored: &[u8]) -> String {
     let mut lines = String::new();
@@ -42,22 +45,36 @@ fn answer_next(stored: &mut &[u8]) -> String {
             format!("{} {}", line(reply), hexadecimal(&out))
         }
         b'a' => line((DOCUMENT.audit)(map, order, sheet)),
-        b'p' => planned(map, order, vec![number as u32; label_words], sheet),
+        b'p' => planned(vec![number as u32; label_words], sheet, |words, lent| {
+            (DOCUMENT.plan)(map, order, words, lent)
+        }),
         b't' => replayed(order, number as u32, sheet),
+        b's' => {
+            let mut written = map.to_vec();
+            let reply = (DOCUMENT.strike)(&mut written, number as u32);
+            format!("{} {}", line(reply), hexadecimal(&written))
+        }
+        b'v' => planned(vec![MARKED_WORD; label_words], sheet, |words, lent| {
+            (DOCUMENT.preview)(&mut map.to_vec(), order, number as u32, words, lent)
+        }),
         other => format!("unknown kind {other}"),
     };
     format!("{title}: {answer}\n")
 }
 
 /// The reply, the sheet afterwards and, where the search was not begun, whether the label words stayed.
-fn planned(map: &[u8], order: &[u8], before: Vec<u32>, sheet: &[u8]) -> String {
+fn planned(
+    before: Vec<u32>,
+    sheet: &[u8],
+    plan: impl FnOnce(&mut [u32], &mut [u8]) -> Reply,
+) -> String {
     let mut words = before.clone();
     let mut lent = sheet.to_vec();
-    let reply = (DOCUMENT.plan)(map, order, &mut words, &mut lent);
-    let stayed = match reply.number {
-        1..=11 if words == before => " kept",
-        1..=11 => " changed",
-        _ => "",
+    let reply = plan(&mut words, &mut lent);
+    let stayed = match (reply.is_before_search(), words == before) {
+        (true, true) => " kept",
+        (true, false) => " changed",
+        (false, _) => "",
     };
     format!("{} {}{stayed}", line(reply), hexadecimal(&lent))
 }

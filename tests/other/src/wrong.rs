@@ -1,5 +1,6 @@
 //! Deliberately wrong copies: `compare` must find each.
 
+mod closures;
 mod splits;
 
 use crate::chains::make_chains;
@@ -62,6 +63,7 @@ pub fn wrong_copies() -> Vec<WrongCopy> {
     copies.extend(check_copies());
     copies.extend(replay_copies());
     copies.extend(splits::copies());
+    copies.extend(closures::copies());
     copies
 }
 

@@ -1,5 +1,6 @@
 //! Random cases, small enough for every reachable state to be enumerated.
 
+pub mod closures;
 pub mod damage;
 pub mod maps;
 pub mod orders;
@@ -13,6 +14,7 @@ pub mod traces;
 
 use crate::moves::{Document, Trip};
 use crate::planning::{answer_of, labels_of, reachable_states};
+use closures::Closure;
 use random::Random;
 use sheets::Timing;
 use traces::Replay;
@@ -36,6 +38,8 @@ pub struct Case {
     pub easier: Option<Run>,
     /// Traces, each with its own rules and figures.
     pub replays: Vec<Replay>,
+    /// Roads to strike, each with its own order.
+    pub closures: Vec<Closure>,
 }
 
 impl Case {
@@ -70,6 +74,7 @@ pub fn case(seed: u64, number: u64) -> Case {
     };
     let replay = |_| traces::random_replay(random);
     case.replays = (0..REPLAYS).map(replay).collect();
+    case.closures = closures::random_closures(random, &case.run);
     case
 }
 
@@ -135,19 +140,21 @@ fn sound_case(random: &mut Random, trip: &Trip) -> Case {
             .collect(),
         easier: None,
         replays: Vec::new(),
+        closures: Vec::new(),
     }
 }
 
 fn pair_case(random: &mut Random, trip: &Trip) -> Case {
     let mut trip = trip.clone();
     let mut easier = pairs::easier_trip(random, &trip);
-    orders::tame_both(&mut trip, &mut easier);
+    orders::tame_both(&mut trip, &mut easier, orders::MOST_STATES);
     Case {
         run: run_of(&trip),
         timings: Vec::new(),
         spoilt_maps: Vec::new(),
         easier: Some(run_of(&easier)),
         replays: Vec::new(),
+        closures: Vec::new(),
     }
 }
 

@@ -136,21 +136,17 @@ fn near(random: &mut Random, value: u64) -> u64 {
 
 /// Brings latest nearer until a trip has few reachable states.
 pub fn tame(trip: &mut Trip) {
-    while !is_tame(trip) {
+    while !reaches_at_most(trip, MOST_STATES) {
         bring_latest_nearer(trip);
     }
 }
 
-/// The same for two trips that share departure and latest.
-pub fn tame_both(one: &mut Trip, other: &mut Trip) {
-    while !is_tame(one) || !is_tame(other) {
+/// The same for two trips that share departure and latest, until each has at most so many.
+pub fn tame_both(one: &mut Trip, other: &mut Trip, most: usize) {
+    while !reaches_at_most(one, most) || !reaches_at_most(other, most) {
         bring_latest_nearer(one);
         bring_latest_nearer(other);
     }
-}
-
-fn is_tame(trip: &Trip) -> bool {
-    reaches_at_most(trip, MOST_STATES)
 }
 
 fn bring_latest_nearer(trip: &mut Trip) {

@@ -113,7 +113,7 @@ pub fn plans_pass_their_audit() {
 }
 
 /// Wrong copies that the laws alone must find, without a second implementation.
-const UNLAWFUL: [&str; 8] = [
+const UNLAWFUL: [&str; 13] = [
     "full-when-just-enough",
     "invented-count",
     "sheet-unwritten",
@@ -122,6 +122,11 @@ const UNLAWFUL: [&str; 8] = [
     "pause-at-the-end-unjudged",
     "lent-mark-ignored",
     "mark-not-handed-back",
+    "strike-moves-the-other-end",
+    "preview-of-the-open-map",
+    "preview-strikes-the-lent-map",
+    "preview-of-an-undriven-road-is-the-plan",
+    "preview-counts-the-open-labels",
 ];
 
 pub fn laws_notice_wrong_copies() {
@@ -148,6 +153,8 @@ pub fn special_calls_have_the_replies_meant() {
     let longest = 20 + 12 * 1_000_000;
     let expected = [
         ("make chains", 0, 0),
+        ("strike", 0, 0),
+        ("preview", 0, 3),
         ("name", 0, 32),
         ("plan", 0, 3),
         ("check map", 0, 0),
@@ -155,10 +162,14 @@ pub fn special_calls_have_the_replies_meant() {
         ("check map", 8, 2_064_399),
         ("check map", 3, 4),
         ("make chains", 3, 4),
+        ("strike", 3, 4),
         ("plan", 3, 4),
+        ("preview", 3, 4),
         ("check map", 3, 8),
         ("make chains", 3, 8),
+        ("strike", 3, 8),
         ("plan", 3, 8),
+        ("preview", 3, 8),
         ("retime", 0, 999_999),
         ("audit", 0, 999_999),
         ("retime", 15, longest),
@@ -198,17 +209,16 @@ pub fn letterings_have_a_bad_byte_at_every_place() {
     }
 }
 
-/// Number and arrival of each, rested and tired, without a split and with one. There are no more than
-/// 17 clocks for the labels to have, since pauses take as long as some roads.
+/// Number and arrival of each, rested and tired, without a split and with one. The last are the first
+/// with a road closed. There are no more than 17 clocks for the labels to have, since pauses take as long
+/// as some roads.
 pub fn equal_clocks_have_the_replies_meant() {
     const TOO_FAR: (u64, u64) = (NO_ROAD, 0);
-    let either_way = |rested, tired| [rested, tired, rested, tired];
-    let expected = [
-        either_way((0, 8 * 450), (0, (8 + 6) * 450)),
-        either_way((0, 16 * 450), TOO_FAR),
-        either_way((0, 9 * 450), (0, (9 + 6) * 450)),
-        either_way(TOO_FAR, TOO_FAR),
-    ];
+    let near = [(0, 8 * 450), (0, (8 + 6) * 450)];
+    let just_met = [(0, 16 * 450), TOO_FAR];
+    let round_the_edge = [(0, 9 * 450), (0, (9 + 6) * 450)];
+    let far = [TOO_FAR; 2];
+    let planned = [near, just_met, round_the_edge, far].map(|pair| pair.repeat(2));
     let replies: Vec<Reply> = equal_clocks::probes()
         .iter()
         .map(|probe| answer(&DOCUMENT, probe).reply)
@@ -217,6 +227,12 @@ pub fn equal_clocks_have_the_replies_meant() {
         .iter()
         .map(|reply| (reply.number, reply.arrival))
         .collect();
-    assert_eq!(told, expected.concat());
-    assert!(replies.iter().all(|reply| reply.place > 100));
+    assert_eq!(told, [planned.concat(), near.into()].concat());
+    let counts: Vec<u64> = replies.iter().map(|reply| reply.place).collect();
+    assert!(counts.iter().all(|count| *count > 100));
+    let closed = &counts[counts.len() - near.len()..];
+    assert!(closed
+        .iter()
+        .zip(&counts)
+        .all(|(closed, open)| closed < open));
 }

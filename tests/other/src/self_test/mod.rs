@@ -1,5 +1,6 @@
 //! Tests of this implementation, for `cargo test` and for the program's `self-test`.
 
+mod closure_cases;
 mod fixtures;
 mod making;
 mod map_cases;
@@ -75,6 +76,15 @@ pub fn tests() -> Vec<Test> {
         split_cases::replayed_pauses,
         split_cases::replayed_pauses_are_judged_whole,
         split_cases::refused_traces_leave_the_mark,
+        closure_cases::striking,
+        closure_cases::unknown_roads,
+        closure_cases::closures_on_map_t,
+        closure_cases::detours,
+        closure_cases::more_labels_than_before,
+        closure_cases::closures_of_other_roads,
+        closure_cases::full_and_short_by_the_struck_trip,
+        closure_cases::order_of_refusals,
+        closure_cases::audits_on_the_struck_map,
         making::practice_maps,
         making::pairs_make_nothing_worse,
         making::dominance_by_pairs_agrees,
