@@ -22,6 +22,6 @@ int main(void) {
     if (reply[0] != TRUNK_DONE) {
         return 1;
     }
-    print_moves(sheet);
+    print_moves(map, sizeof map, sheet);
     return 0;
 }

@@ -27,7 +27,7 @@ static int plan(uint32_t *order_words, const uint32_t *figures) {
     trunk_plan(map, sizeof map, order, sizeof order, words, sizeof words / sizeof *words, sheet, sizeof sheet, reply, 3);
     print_reply(reply);
     if (reply[0] == TRUNK_DONE) {
-        print_moves(sheet);
+        print_moves(map, sizeof map, sheet);
     }
     return reply[0] == TRUNK_DONE;
 }

@@ -7,7 +7,7 @@ set -euo pipefail
 cd "$(dirname "$0")/.."
 if [ "${1:-}" != --built ]; then rt staticlib trunk >&2; fi
 
-in_both="plan_map_t replay_day"
+in_both="plan_map_t replay_day preview_closure"
 mkdir -p target/examples
 for example in $in_both; do
     cc -std=c11 -O2 -Wall -Wextra -Iinclude "examples/$example.c" target/staticlib/libtrunk.a -o "target/examples/$example"

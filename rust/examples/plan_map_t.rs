@@ -1,7 +1,9 @@
 //! Plans document 01's map T and prints the reply and the moves on the sheet, as `examples/plan_map_t.c` does.
+mod listing;
 mod map_t;
 
-use map_t::{bytes_of, map_t, print_moves};
+use listing::{bytes_of, print_moves};
+use map_t::map_t;
 
 fn main() -> Result<(), trunk::Refused> {
     let map = map_t();

@@ -1,8 +1,10 @@
 //! Plans map T for a driver who comes from a rest, then brings the hours up to date from a day's trace and plans again, as
 //! `examples/replay_day.c` does.
+mod listing;
 mod map_t;
 
-use map_t::{bytes_of, map_t, print_moves};
+use listing::{bytes_of, print_moves};
+use map_t::map_t;
 use trunk::{Figures, Refused, Rules, DRIVING, LABEL_WORDS, OTHER_WORK, PAUSE};
 
 /// What the tachograph has: activity and seconds.

@@ -1,13 +1,5 @@
-//! Map T of document 01 for the examples, and the lines of a plan on it.
-const JUNCTIONS: usize = 3;
-
-fn word_at(bytes: &[u8], at: usize) -> u32 {
-    u32::from_le_bytes(bytes[at..at + 4].try_into().unwrap())
-}
-
-pub fn bytes_of(words: &[u32]) -> Vec<u8> {
-    words.iter().flat_map(|word| word.to_le_bytes()).collect()
-}
+//! Map T of document 01 for the examples.
+use crate::listing::bytes_of;
 
 pub fn map_t() -> Vec<u8> {
     let mut map = bytes_of(&[
@@ -21,26 +13,4 @@ pub fn map_t() -> Vec<u8> {
     ]);
     map.extend_from_slice(b"HubLayEnd");
     map
-}
-
-/// The moves on a sheet, a line each.
-pub fn print_moves(map: &[u8], sheet: &[u8]) -> Result<(), trunk::Refused> {
-    let moves = word_at(sheet, 0) as usize;
-    for record in sheet[20..20 + 12 * moves].chunks(12) {
-        print_move(map, record)?;
-    }
-    Ok(())
-}
-
-/// A record's word, number, the name of the junction reached, and clock.
-fn print_move(map: &[u8], record: &[u8]) -> Result<(), trunk::Refused> {
-    let (kind, number, clock) = (word_at(record, 0), word_at(record, 4), word_at(record, 8));
-    let word = ["drive", "break", "rest", "first", "second"][kind as usize - 1];
-    let reached = match kind {
-        trunk::DRIVE => word_at(map, 16 + 16 * JUNCTIONS + 20 * (number as usize - 1) + 4),
-        _ => number,
-    };
-    let name = String::from_utf8_lossy(trunk::name(map, reached)?);
-    println!("{word} {number} {name} {clock}");
-    Ok(())
 }
