@@ -13,6 +13,7 @@ import case_files
 import map_cases
 import plan_cases
 import sheet_cases
+import striking_cases
 import trace_cases
 from formats import T_LISTING, map_t, order
 

@@ -3,9 +3,10 @@
 // A case on standard input: its kind, the length of its title, the title, five words (a number, the
 // words of label space, and the lengths of map, order and sheet), the map, the order, the sheet. The
 // number is the junction asked for a name, the junction count for an order, the length of the lent
-// sheet for retiming, and for planning what every label word holds beforehand. The sheet of planning
-// is the one that is lent. For replaying, the order's place has an order's words 4 to 11 alone, the
-// number is 0 without the mark and 1 with it, and the sheet's place has the trace.
+// sheet for retiming, the road for striking and for a preview, and for planning what every label word
+// holds beforehand. The sheet of planning and of a preview is the one that is lent. For replaying, the
+// order's place has an order's words 4 to 11 alone, the number is 0 without the mark and 1 with it, and
+// the sheet's place has the trace.
 ghost use Prim.Native.Nat.{_≤_, _<_};
 ghost use lib.ListN.{length};
 use driving::Figures;
@@ -25,8 +26,13 @@ const HEADER_BYTES: usize = 20;
 // The driver's figures and the rules: an order's words 4 to 11.
 const HOURS_BYTES: usize = 32;
 
-// Refusals below this number are given before the search, and leave the label space as it was.
+// The refusals of the search. The others are given before it, and leave the label space as it was.
 const FIRST_OF_SEARCH: u32 = 12;
+
+const LAST_OF_SEARCH: u32 = 14;
+
+// What every label word of a preview holds beforehand.
+const MARKED_WORD: u32 = 0xEEEEEEEE;
 
 // What a case says beside its bytes.
 struct Case {
@@ -110,6 +116,13 @@ fn all_are(words: &[u32], value: u32) -> bool {
     true
 }
 
+fn chain_or_strike(case: Case, map: &mut [u8]) -> Reply {
+    if case.kind == b's' {
+        return striking::strike(map, case.number).reply();
+    }
+    mapedit::make_chains(map).reply()
+}
+
 fn run_on_map(case: Case, map: &mut [u8]) {
     if case.kind == b'm' {
         print_reply(mapcheck::check_map(map).reply());
@@ -120,8 +133,8 @@ fn run_on_map(case: Case, map: &mut [u8]) {
         print(mapedit::name(map, case.number));
         print(b">");
     }
-    if case.kind == b'c' {
-        print_reply(mapedit::make_chains(map).reply());
+    if case.kind == b'c' || case.kind == b's' {
+        print_reply(chain_or_strike(case, map));
         print(b" ");
         print_bytes(map);
     }
@@ -185,7 +198,7 @@ fn run_replay(marked: bool, hours: &[u8], trace: &[u8]) {
 
 // Where a refusal came before the search, whether every label word is as it was.
 fn print_kept(number: u32, words: &[u32], before: u32) {
-    if number == 0 || FIRST_OF_SEARCH <= number {
+    if number == 0 || (FIRST_OF_SEARCH <= number && number <= LAST_OF_SEARCH) {
         return;
     }
     if all_are(words, before) {
@@ -195,18 +208,40 @@ fn print_kept(number: u32, words: &[u32], before: u32) {
     }
 }
 
-// Plans with label words that all hold `before`, and a lent sheet that holds the case's.
+fn held_before(case: Case) -> u32 {
+    if case.kind == b'v' {
+        MARKED_WORD
+    } else {
+        case.number
+    }
+}
+
+fn plan_or_preview(
+    case: Case,
+    map: &[u8],
+    order: &[u8],
+    words: &mut [u32],
+    lent: &mut [u8],
+) -> Reply {
+    if case.kind == b'v' {
+        return planner::preview(map, order, case.number, words, lent).reply();
+    }
+    planner::plan(map, order, words, lent).reply()
+}
+
+// With label words that all hold the same, and a lent sheet that holds the case's.
 fn plan_filled(
-    before: u32,
+    case: Case,
     map: &[u8],
     order: &[u8],
     sheet: &[u8],
     words: &mut [u32],
     lent: &mut [u8],
 ) {
+    let before = held_before(case);
     fill(words, before);
     copy(sheet, lent);
-    let reply = planner::plan(map, order, words, lent).reply();
+    let reply = plan_or_preview(case, map, order, words, lent);
     print_reply(reply);
     print(b" ");
     print_bytes(lent);
@@ -225,7 +260,7 @@ fn run_planning(
     let words = case.words as usize;
     if lent <= space.len() && words <= labels.len() {
         plan_filled(
-            case.number,
+            case,
             map,
             order,
             sheet,
@@ -247,7 +282,7 @@ fn run(
     requires { ⌜ (order ≤ sheet) × (sheet ≤ length (now bytes)) ⌝ }
 {
     let end = bytes.len();
-    if case.kind == b'p' {
+    if case.kind == b'p' || case.kind == b'v' {
         run_planning(
             case,
             &bytes[0..order],
