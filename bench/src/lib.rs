@@ -7,6 +7,7 @@ pub mod map_bytes;
 pub mod maps;
 pub mod ordinary;
 pub mod planning;
+pub mod previews;
 pub mod strong;
 pub mod table;
 pub mod timing;

@@ -17,7 +17,8 @@ use crate::trips::NamedTrip;
 /// For all runs of one trip.
 pub const LEAST_TIME: Duration = Duration::from_secs(1);
 
-const LONGEST_PLAN: usize = 100_000;
+/// The moves that the library's sheet has room for.
+pub const LONGEST_PLAN: usize = 100_000;
 
 /// A map and an order in the form that each planner takes.
 struct Prepared<'a> {

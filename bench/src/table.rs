@@ -1,5 +1,7 @@
 //! Tables in markdown.
 
+use std::time::Duration;
+
 pub struct Table {
     lines: Vec<String>,
 }
@@ -41,6 +43,13 @@ pub fn brief(time: f64) -> String {
         format!("{time:.2}")
     } else {
         format!("{time:.0}")
+    }
+}
+
+pub fn microseconds(time: Duration) -> String {
+    match time.as_micros() as u64 {
+        ..10 => brief(1_000_000.0 * time.as_secs_f64()),
+        whole => grouped(whole),
     }
 }
 

@@ -12,7 +12,7 @@ use bench::answer::Answer;
 use bench::machine::{exit_code, load, processor};
 use bench::maps::{practice, NamedMap};
 use bench::planning::{Planners, Timed};
-use bench::table::{brief, grouped, ratio_text, Table};
+use bench::table::{grouped, microseconds, ratio_text, Table};
 use bench::timing::ratio;
 use bench::trips::{NamedTrip, Targets};
 use other::make::{case, Run};
@@ -253,11 +253,4 @@ fn practice_row(timed: &Timed, searched: &Searched) -> [String; 12] {
         told(&searched.first, &time),
         told(&searched.first, &times_library),
     ]
-}
-
-fn microseconds(time: Duration) -> String {
-    match time.as_micros() as u64 {
-        ..10 => brief(1_000_000.0 * time.as_secs_f64()),
-        whole => grouped(whole),
-    }
 }

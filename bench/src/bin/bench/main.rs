@@ -2,6 +2,7 @@
 //! a reply that differs ends it; no time does.
 
 mod checks;
+mod closures;
 mod tables;
 
 use std::process::ExitCode;
@@ -9,8 +10,10 @@ use std::process::ExitCode;
 use bench::machine::{exit_code, load, processor};
 use bench::maps::{dense_comb, grid, hubs, practice, uniform_grid, usual_comb, NamedMap};
 use bench::planning::{Planners, Timed, LEAST_TIME};
+use bench::previews;
 use bench::trips::{NamedTrip, Targets};
 use checks::{print_map_checks, print_sheet_checks};
+use closures::print_previews;
 use other::mapcheck::MOST_JUNCTIONS;
 use tables::{print_ratios, print_summary, print_times};
 
@@ -75,12 +78,15 @@ fn report(extent: &Extent) -> Result<(), String> {
     let runs = extent.runs;
     println!("{}, {} when begun.", processor(), load());
     println!(
-        "Each figure is the best of {runs} runs that take turns, on combs of {}; of planning it is the best of more, where these take less than {} s.\n",
+        "Each figure is the best of {runs} runs that take turns, on combs of {}; of planning it is the best of more, where these take less than {} s, and of previews less than {} ms.\n",
         extent.comb_runs,
-        LEAST_TIME.as_secs()
+        LEAST_TIME.as_secs(),
+        previews::LEAST_TIME.as_millis()
     );
     let maps = usual_maps(extent);
     report_planning(extent, &maps)?;
+    println!("### Previews of closures, microseconds\n");
+    print_previews(runs, &maps)?;
     println!("### Map check, nanoseconds per road\n");
     print_map_checks(runs, &maps)?;
     println!("### Retiming and audit, nanoseconds per move\n");
