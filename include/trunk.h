@@ -108,8 +108,8 @@ void trunk_check_map(const uint8_t *map, size_t map_length,
                      uint64_t *reply, size_t reply_count);
 
 /* Order check: an order alone, as it is typed. Reads the order; `junctions` is J of the map that the order is meant for,
- * word 1 of that map. Refuses 9 to 11; success is 0, 0, 0. Planning, retiming and audit judge the order likewise, after
- * the map. */
+ * word 1 of that map. Refuses 9 to 11; success is 0, 0, 0. Planning, the preview, retiming and audit judge the order
+ * likewise, after the map. */
 void trunk_check_order(const uint8_t *order, size_t order_length,
                        uint32_t junctions,
                        uint64_t *reply, size_t reply_count);
