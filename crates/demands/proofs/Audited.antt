@@ -113,13 +113,15 @@ module _ (bytes order sheet : List ℕ) (number-0 : auditReply bytes order sheet
   audited-holds =
       let first = or-false figures in
       let rest = or-false (first .1) in
+      let last = or-false (rest .1) in
       record {
         long = long;
         journey = record { leads = passed .leads; ends = at-target };
         clocks = own-rows ∙ passed .clocks;
         arrival = ap (λ (n : ℕ). record { 0 = n }) (eqb-true _ _ (not-false _ (first .0)));
         spell = ap (λ (n : ℕ). record { 0 = n }) (eqb-true _ _ (not-false _ (rest .0)));
-        shift = ap (λ (n : ℕ). record { 0 = n }) (eqb-true _ _ (not-false _ (rest .1)));
+        shift = ap (λ (n : ℕ). record { 0 = n }) (eqb-true _ _ (not-false _ (last .0)));
+        week = ap (λ (n : ℕ). record { 0 = n }) (eqb-true _ _ (not-false _ (last .1)));
       }
 
   pub audited-told : auditReply bytes order sheet ≡ succeeded (movesOn sheet) (reached-by .clock .0)

@@ -26,6 +26,6 @@ module _ (h : Heading) (rows : List Row) (sheet : List ℕ) (count : h .moves �
   pub rows-read : rowsOf sheet′ 1 (movesOn sheet′) ≡ rows
   rows-read = ap (rowsOf sheet′ 1) count-read ∙ ap (λ (s : List ℕ). rowsOf s 1 (length rows)) is ∙ rows-back h rows sheet
 
-  -- bytes after 20 + 12M stay
+  -- bytes after 24 + 12M stay
   pub rest-stays : drop (sheetNeeded (movesOn sheet′)) sheet′ ≡ drop (sheetNeeded (movesOn sheet′)) sheet
   rest-stays = rw (count-read, is) (rest-after h rows sheet)

@@ -100,7 +100,7 @@ module _ (map order sheet : List ℕ) (answer : Timing) (told : toldTiming answe
       let passed = rw told at done in
       (reached-by map order sheet passed, audited-holds map order sheet passed, ap (λ (r : Reply). r .arrival) (told ∙ audited-told map order sheet passed))
 
-  -- "Arrival less departure is the sum of its road times, breaks and rests." A part "counts as a break" (document 02, P5).
+  -- "Arrival less departure is the sum of its road times, breaks and rests." A part "counts as a break" (document 02, P5), and a weekly rest as a rest (P7).
   pub audit-seconds : toldTiming answer .arrival ≡ orderOf order .departure .0 + totalSeconds (tripFrom map order) (movesRead sheet)
   unfolding tripOf
   audit-seconds = audit-holds .2 ∙ leads-clock (tripFrom map order) (audit-holds .1 .journey .leads)
@@ -158,7 +158,8 @@ module _ {map map′ : List ℕ} {road : ℕ} {answer : Check} (run : Striking m
   pub striking-passes : toldCheck answer .number ≡ 0 → AcceptedMap map′
   striking-passes = still-passes run
 
--- Document 02, P3: "We want them replayed from a trace"; P5: "The mark joins the lent figures and starts as lent."
+-- Document 02, P3: "We want them replayed from a trace"; P5: "The mark joins the lent figures and starts as lent."; P7: "The week joins the
+-- replay's lent figures".
 module _ {trace : List ℕ} {rules : Rules} {before after : Figures} {answer : Replaying} (replayed : Replayed trace rules before after answer) where
   pub replay-replies : RepliesBy (replayTests trace rules before) (toldReplaying answer)
   replay-replies = replies-by (replayTests trace rules before) _ refl tt (replayed .reply)
@@ -216,11 +217,11 @@ module _ {map order sheet out out′ : List ℕ} {answer : Timing} (retimed : Re
     pub retiming-copies : (movesRead out′ ≡ movesRead sheet) × (headingOf out′ .labels ≡ headingOf sheet .labels)
     retiming-copies = (same-moves retimed done, same-labels retimed done)
 
-    -- "Bytes after 20 + 12M stay."
+    -- "Bytes after 24 + 12M stay."
     pub retiming-keeps : drop (sheetNeeded (movesOn out′)) out′ ≡ drop (sheetNeeded (movesOn out′)) out
     retiming-keeps = rest-retimed retimed done
 
-    -- "Arrival less departure is the sum of its road times, breaks and rests." A part "counts as a break" (document 02, P5).
+    -- "Arrival less departure is the sum of its road times, breaks and rests." A part "counts as a break" (document 02, P5), and a weekly rest as a rest (P7).
     pub retiming-seconds : toldTiming answer .arrival ≡ orderOf order .departure .0 + totalSeconds (tripFrom map order) (movesRead out′)
     unfolding tripOf
     retiming-seconds = retiming-writes .2 ∙ leads-clock (tripFrom map order) (retiming-writes .1 .journey .leads)
@@ -252,7 +253,7 @@ module _ {map order words words′ sheet sheet′ : List ℕ} {answer : Planning
   pub planning-length : length sheet′ ≡ length sheet
   planning-length = by-number (toldPlan answer .number) (λ plans. length-written (wrote-plan plans)) (λ refused. ap length (planning-leaves refused))
 
-  -- "Bytes after 20 + 12M stay."
+  -- "Bytes after 24 + 12M stay."
   pub planning-keeps : Plans answer → drop (sheetNeeded (movesOn sheet′)) sheet′ ≡ drop (sheetNeeded (movesOn sheet′)) sheet
   planning-keeps plans = rest-written (wrote-plan plans)
 
@@ -267,7 +268,7 @@ module _ {map order words words′ sheet sheet′ : List ℕ} {answer : Planning
   pub plan-obeys : Plans answer → (t : State) × HoldsJourney trip sheet′ t × (toldPlan answer .arrival ≡ t .clock .0)
   plan-obeys plans = let w = wrote-plan plans in (w .state, holds-journey w, ap (λ (r : Reply). r .arrival) (w .told))
 
-  -- "Arrival less departure is the sum of its road times, breaks and rests." A part "counts as a break" (document 02, P5).
+  -- "Arrival less departure is the sum of its road times, breaks and rests." A part "counts as a break" (document 02, P5), and a weekly rest as a rest (P7).
   pub plan-seconds : Plans answer → toldPlan answer .arrival ≡ orderOf order .departure .0 + totalSeconds trip (movesRead sheet′)
   unfolding tripOf
   plan-seconds plans = plan-obeys plans .2 ∙ leads-clock trip (plan-obeys plans .1 .journey .leads)
@@ -317,7 +318,8 @@ module _ {map order words words′ sheet sheet′ : List ℕ} {answer : Planning
 
 -- "Take any two planning runs A and B with accepted maps and orders that share the junctions, the numbers and ends of the roads, source, target,
 -- departure and latest arrival. Suppose that in B no road takes longer, no limit is lower, no break or rest is longer, no starting figure is
--- higher, and each car park of A is one." Document 02, P5: "where A has a split so has B, with parts no longer than A's." "Whenever A plans,"
+-- higher, and each car park of A is one." Document 02, P5: "where A has a split so has B, with parts no longer than A's." P7: "week limit is one
+-- of the limits, week figure one of the starting figures, and B's weekly rest is no longer than A's." "Whenever A plans,"
 module _ {mapA orderA mapB orderB : List ℕ} (accepted-a : AcceptedRun mapA orderA) (accepted-b : AcceptedRun mapB orderB) (easier : EasierRun mapB orderB mapA orderA)
     {wordsA wordsA′ sheetA sheetA′ : List ℕ} {answerA : Planning} (run-a : Planned mapA orderA wordsA wordsA′ sheetA sheetA′ answerA) (plans-a : Plans answerA) where
   under-b : Afresh mapB orderB sheetA′ answerA

@@ -122,6 +122,7 @@ module _ {bytes order sheet out out′ : List ℕ} {answer : Timing} (retimed : 
         arrival = ap (λ (h : Heading). h .arrival) (heading-read heading rows out count is);
         spell = ap (λ (h : Heading). h .spell) (heading-read heading rows out count is);
         shift = ap (λ (h : Heading). h .shift) (heading-read heading rows out count is);
+        week = ap (λ (h : Heading). h .week) (heading-read heading rows out count is);
       }
 
   -- and its header and M records pass the audit

@@ -104,6 +104,7 @@ module _ {bytes order words sheet sheet′ : List ℕ} {answer : Planning} (w : 
         arrival = ap (λ (h : Heading). h .arrival) heading-written;
         spell = ap (λ (h : Heading). h .spell) heading-written;
         shift = ap (λ (h : Heading). h .shift) heading-written;
+        week = ap (λ (h : Heading). h .week) heading-written;
       }
 
   -- no legal journey arrives earlier

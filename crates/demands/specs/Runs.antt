@@ -48,6 +48,7 @@ pub record HoldsJourney (trip : Trip) (sheet : List ℕ) (t : State) : Type 0 wh
   pub arrival : headingOf sheet .arrival ≡ t .clock
   pub spell : headingOf sheet .spell ≡ t .figures .spell
   pub shift : headingOf sheet .shift ≡ t .figures .shift
+  pub week : headingOf sheet .week ≡ t .figures .week
 
 -- the header and the M records of a written sheet
 abbrev pub headerAndRecords : List ℕ → List ℕ

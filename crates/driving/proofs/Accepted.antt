@@ -1,4 +1,4 @@
--- An order passes exactly when its length is 48 and its words keep the rules; the facts that later layers use. Assumes nothing.
+-- An order passes exactly when its length is 60 and its words keep the rules; the facts that later layers use. Assumes nothing.
 use mathlib.Core.Path.{_≡_, refl}
 use mathlib.Core.Bool.{Bool, true, false, not, _||_}
 use mathlib.Core.List.{List, [], _∷_, _++_}
@@ -75,6 +75,10 @@ rules-sound r e =
       first-high = leb-true _ _ (search kept);
       second-low = λ split. leb-true _ _ (asked (hasSplit r) _ (search kept) split);
       second-high = leb-true _ _ (search kept);
+      week-limit-low = leb-true _ _ (search kept);
+      week-limit-high = leb-true _ _ (search kept);
+      weekly-low = leb-true _ _ (search kept);
+      weekly-high = leb-true _ _ (search kept);
     }
 
 pub sound-rules-pass : (r : Rules) → SoundRules r → badRules r ≡ none
@@ -83,7 +87,7 @@ sound-rules-pass r s =
     let first : partTaken r (r .«first_part» .0) ≡ true = granted _ _ (λ split. le-leb _ _ (s .first-low split)) in
     let second : partTaken r (r .«second_part» .0) ≡ true = granted _ _ (λ split. le-leb _ _ (s .second-low split)) in
     none-broken (limitRules r)
-    (le-leb _ _ (s .spell-limit-low), (le-leb _ _ (s .break-low), (le-leb _ _ (s .limits-rise), (le-leb _ _ (s .shift-limit-high), (le-leb _ _ (s .pauses-rise), (le-leb _ _ (s .rest-high), (first, (le-leb _ _ (s .first-high), (second, (le-leb _ _ (s .second-high), tt))))))))))
+    (le-leb _ _ (s .spell-limit-low), (le-leb _ _ (s .break-low), (le-leb _ _ (s .limits-rise), (le-leb _ _ (s .shift-limit-high), (le-leb _ _ (s .pauses-rise), (le-leb _ _ (s .rest-high), (first, (le-leb _ _ (s .first-high), (second, (le-leb _ _ (s .second-high), (le-leb _ _ (s .week-limit-low), (le-leb _ _ (s .week-limit-high), (le-leb _ _ (s .weekly-low), (le-leb _ _ (s .weekly-high), tt))))))))))))))
 
 pub european-sound : SoundRules europeanRules
 european-sound =
@@ -98,15 +102,26 @@ european-sound =
       first-high = lit≤ tt;
       second-low = λ split. lit≤ tt;
       second-high = lit≤ tt;
+      week-limit-low = lit≤ tt;
+      week-limit-high = lit≤ tt;
+      weekly-low = lit≤ tt;
+      weekly-high = lit≤ tt;
     }
 
 -- the starting figures' part of refusal 11
 figures-kept : (f : Figures) (r : Rules) → AllKept (figureRules f r) → SoundFigures f r
 figures-kept f r kept =
-    record { spell-high = leb-true _ _ (search kept); figures-rise = leb-true _ _ (search kept); shift-high = leb-true _ _ (search kept) }
+    record {
+      spell-high = leb-true _ _ (search kept);
+      figures-rise = leb-true _ _ (search kept);
+      shift-high = leb-true _ _ (search kept);
+      week-low = leb-true _ _ (search kept);
+      week-high = leb-true _ _ (search kept);
+    }
 
 kept-figures : (f : Figures) (r : Rules) → SoundFigures f r → AllKept (figureRules f r)
-kept-figures f r s = (le-leb _ _ (s .spell-high), (le-leb _ _ (s .figures-rise), (le-leb _ _ (s .shift-high), tt)))
+kept-figures f r s =
+    (le-leb _ _ (s .spell-high), (le-leb _ _ (s .figures-rise), (le-leb _ _ (s .shift-high), (le-leb _ _ (s .week-low), (le-leb _ _ (s .week-high), tt)))))
 
 pub figures-sound : (f : Figures) (r : Rules) → badFigures f r ≡ none → SoundFigures f r
 unfolding badFigures
@@ -148,7 +163,7 @@ order-length bytes e =
     (λ (other : eqb (length bytes) orderBytes ≡ false). absurd (some-not-none (simp other at e)))
     (cases (eqb (length bytes) orderBytes))
 
--- the order check passes exactly the orders of 48 bytes whose words keep every rule
+-- the order check passes exactly the orders of 60 bytes whose words keep every rule
 pub order-accepted : (junctions : ℕ) (bytes : List ℕ) → NoneFits (orderTests junctions bytes) → AcceptedOrder junctions (orderOf bytes)
 order-accepted junctions bytes passed = order-sound junctions (orderOf bytes) (none-under 10 (orderTests junctions bytes) passed) (none-under 11 (orderTests junctions bytes) passed)
 

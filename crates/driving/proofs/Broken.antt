@@ -53,7 +53,7 @@ pub trip-parts : (junctions : ℕ) (o : Order) (success : Reply) → firstOf ((1
 unfolding badTrip badEnds badFigures
 trip-parts junctions o success = sym (two-lists 11 (endRules junctions o) (figureRules (o .figures) (o .rules)) success)
 
--- an order of 48 bytes is checked by its rules, and then by its trip
+-- an order of 60 bytes is checked by its rules, and then by its trip
 pub order-parts : (junctions : ℕ) (bytes : List ℕ) (o : Order) (success : Reply) → length bytes ≡ orderBytes → o ≡ orderOf bytes → firstOf ((10 at badRules (o .rules)) ∷ (11 at badTrip junctions o) ∷ []) success ≡ firstOf (orderTests junctions bytes) success
 unfolding firstOf
 order-parts junctions bytes o success long read = rw read (simp (eq-eqb (length bytes) orderBytes long))

@@ -16,9 +16,9 @@ use Rattle.driving.specs.Accepted.{SoundRules, SoundFigures}
 use Rattle.driving.specs.Compared.{EasesRules}
 use Rattle.driving.specs.Hours.{wheelFigures, wheelLimits, highestLimits, markFigure, driverFigures, highestFigures, drivenOn, firstPause, lastPause, pauseCount, hasSplit, wholeTimes, partTimes, pauseTimes, pauseSeconds, allowances, allowsPause, afterBreak, clearings, cleared}
 
--- a drive's seconds are added to spell and shift, and the mark stays
+-- a drive's seconds are added to spell, shift and week, and the mark stays
 abbrev pub driveChanges : List Change
-driveChanges = grows ∷ grows ∷ stays ∷ []
+driveChanges = grows ∷ grows ∷ grows ∷ stays ∷ []
 
 pub figures-driven : (seconds : ℕ) (f : Figures) → driverFigures (drivenOn seconds f) ≡ changedEach driveChanges seconds (driverFigures f)
 unfolding changedEach
@@ -27,14 +27,15 @@ figures-driven seconds f = refl
 -- what a pause clears or sets, by kind
 abbrev clearingChanges : List (List Change)
 clearingChanges =
-    (becomes 0 ∷ stays ∷ becomes 1 ∷ [])
-    ∷ (becomes 0 ∷ becomes 0 ∷ becomes 1 ∷ [])
-    ∷ (stays ∷ stays ∷ becomes 0 ∷ [])
-    ∷ (becomes 0 ∷ stays ∷ becomes 1 ∷ [])
+    (becomes 0 ∷ stays ∷ stays ∷ becomes 1 ∷ [])
+    ∷ (becomes 0 ∷ becomes 0 ∷ stays ∷ becomes 1 ∷ [])
+    ∷ (stays ∷ stays ∷ stays ∷ becomes 0 ∷ [])
+    ∷ (becomes 0 ∷ stays ∷ stays ∷ becomes 1 ∷ [])
+    ∷ (becomes 0 ∷ becomes 0 ∷ becomes 0 ∷ becomes 1 ∷ [])
     ∷ []
 
 abbrev noChanges : List Change
-noChanges = stays ∷ stays ∷ stays ∷ []
+noChanges = stays ∷ stays ∷ stays ∷ stays ∷ []
 
 abbrev pub pauseChanges : ℕ → List Change
 pauseChanges kind = getD clearingChanges (kind - firstPause) noChanges
@@ -48,30 +49,36 @@ figures-cleared kind seconds f = by-row (kind - firstPause)
     by-row (suc zero) = refl
     by-row (suc (suc zero)) = refl
     by-row (suc (suc (suc zero))) = refl
-    by-row (suc (suc (suc (suc row)))) = refl
+    by-row (suc (suc (suc (suc zero)))) = refl
+    by-row (suc (suc (suc (suc (suc row))))) = refl
 
 -- a break and a second part do the same
-pub spell-cleared : (kind : ℕ) (f : Figures) → firstPause ≤ kind → kind ≤ lastPause → (kind ≡ 3 → ⊥) → (kind ≡ 4 → ⊥) → cleared kind f ≡ afterBreak f
-spell-cleared kind f low high no-rest no-first =
-    by-row (kind - firstPause) (omega arith) (λ e. no-rest (omega arith)) (λ e. no-first (omega arith))
+pub spell-cleared : (kind : ℕ) (f : Figures) → firstPause ≤ kind → kind ≤ lastPause → (kind ≡ 3 → ⊥) → (kind ≡ 4 → ⊥) → (kind ≡ 6 → ⊥) → cleared kind f ≡ afterBreak f
+spell-cleared kind f low high no-rest no-first no-weekly =
+    by-row (kind - firstPause) (omega arith) (λ e. no-rest (omega arith)) (λ e. no-first (omega arith)) (λ e. no-weekly (omega arith))
   where
-    by-row : (row : ℕ) → row < pauseCount → (row ≡ 1 → ⊥) → (row ≡ 2 → ⊥) → getD clearings row (λ f. f) f ≡ afterBreak f
-    by-row zero within one two = refl
-    by-row (suc zero) within one two = absurd (one refl)
-    by-row (suc (suc zero)) within one two = absurd (two refl)
-    by-row (suc (suc (suc zero))) within one two = refl
-    by-row (suc (suc (suc (suc row)))) within one two = absurd (omega arith)
+    by-row : (row : ℕ) → row < pauseCount → (row ≡ 1 → ⊥) → (row ≡ 2 → ⊥) → (row ≡ 4 → ⊥) → getD clearings row (λ f. f) f ≡ afterBreak f
+    by-row zero within one two four = refl
+    by-row (suc zero) within one two four = absurd (one refl)
+    by-row (suc (suc zero)) within one two four = absurd (two refl)
+    by-row (suc (suc (suc zero))) within one two four = refl
+    by-row (suc (suc (suc (suc zero)))) within one two four = absurd (four refl)
+    by-row (suc (suc (suc (suc (suc row))))) within one two four = absurd (omega arith)
 
 -- sound figures are within the limits, and sound limits are at most the highest
 pub figures-within : (f : Figures) (r : Rules) → SoundFigures f r → T (noneAbove (wheelFigures f) (wheelLimits r))
-figures-within f r sound = above-more _ _ _ _ (sound .spell-high) (above-more _ _ _ _ (sound .shift-high) above-end)
+figures-within f r sound =
+    above-more _ _ _ _ (sound .spell-high) (above-more _ _ _ _ (sound .shift-high) (above-more _ _ _ _ (sound .week-high) above-end))
 
 pub limits-within : (r : Rules) → SoundRules r → T (noneAbove (wheelLimits r) highestLimits)
 limits-within r sound =
     let low : r .«spell_limit» .0 ≤ 1000000 = omega (arith, sound .limits-rise, sound .shift-limit-high) in
-    above-more _ _ _ _ low (above-more _ _ _ _ (sound .shift-limit-high) above-end)
+    above-more _ _ _ _ low (above-more _ _ _ _ (sound .shift-limit-high) (above-more _ _ _ _ (sound .week-limit-high) above-end))
 
 -- a whole pause is always allowed, and a part only with a split
+pub weekly-allowed : (r : Rules) (f : Figures) (kind : ℕ) → 5 < kind → kind ≤ lastPause → allowsPause r f kind ≡ true
+weekly-allowed r f kind low high = let weekly : kind ≡ lastPause = omega arith in rw weekly
+
 pub whole-allowed : (r : Rules) (f : Figures) (kind : ℕ) → kind < 4 → allowsPause r f kind ≡ true
 whole-allowed r f kind low = by-row (kind - firstPause) (omega arith)
   where
@@ -80,15 +87,15 @@ whole-allowed r f kind low = by-row (kind - firstPause) (omega arith)
     by-row (suc zero) low = refl
     by-row (suc (suc row)) low = absurd (omega arith)
 
-pub no-part : (r : Rules) (f : Figures) (kind : ℕ) → 4 ≤ kind → hasSplit r ≡ false → allowsPause r f kind ≡ false
-no-part r f kind high none = by-row (kind - firstPause) (omega arith)
+pub no-part : (r : Rules) (f : Figures) (kind : ℕ) → 4 ≤ kind → kind ≤ 5 → hasSplit r ≡ false → allowsPause r f kind ≡ false
+no-part r f kind low high none = by-row (kind - firstPause) (omega arith) (omega arith)
   where
-    by-row : (row : ℕ) → 2 ≤ row → getD (allowances r f) row false ≡ false
-    by-row zero low = absurd (omega arith)
-    by-row (suc zero) low = absurd (omega arith)
-    by-row (suc (suc zero)) low = none
-    by-row (suc (suc (suc zero))) low = rw none
-    by-row (suc (suc (suc (suc row)))) low = refl
+    by-row : (row : ℕ) → 2 ≤ row → row ≤ 3 → getD (allowances r f) row false ≡ false
+    by-row zero low high = absurd (omega arith)
+    by-row (suc zero) low high = absurd (omega arith)
+    by-row (suc (suc zero)) low high = none
+    by-row (suc (suc (suc zero))) low high = rw none
+    by-row (suc (suc (suc (suc row)))) low high = absurd (omega arith)
 
 -- the mark is told by its figure, 0 or 1
 pub mark-told : (m : Bool) → eqb (markFigure m) 0 ≡ m
@@ -120,8 +127,9 @@ module _ (rb ra : Rules) (eases : EasesRules rb ra) where
       by-row (suc (suc zero)) may = eases .split may
       by-row (suc (suc (suc zero))) may =
           let both = and-true {a = hasSplit ra} may in
-          rw (eases .split (both .0)) (marked-too (b .marked) (a .marked) (above-at (driverFigures b) (driverFigures a) 2 over) (both .1))
-      by-row (suc (suc (suc (suc row)))) may = may
+          rw (eases .split (both .0)) (marked-too (b .marked) (a .marked) (above-at (driverFigures b) (driverFigures a) 3 over) (both .1))
+      by-row (suc (suc (suc (suc zero)))) may = refl
+      by-row (suc (suc (suc (suc (suc row))))) may = may
 
   pub no-longer : (a : Figures) (kind : ℕ) → allowsPause ra a kind ≡ true → pauseSeconds rb kind ≤ pauseSeconds ra kind
   no-longer a kind allowed = by-row (kind - firstPause) allowed
@@ -137,7 +145,8 @@ module _ (rb ra : Rules) (eases : EasesRules rb ra) where
       by-row (suc zero) may = whole 1
       by-row (suc (suc zero)) may = part may 0
       by-row (suc (suc (suc zero))) may = part (and-true {a = hasSplit ra} may .0) 1
-      by-row (suc (suc (suc (suc row)))) may = omega arith
+      by-row (suc (suc (suc (suc zero)))) may = whole 2
+      by-row (suc (suc (suc (suc (suc row))))) may = omega arith
 
 -- each pause that sound rules allow takes time, and not too much
 pub pause-takes : (r : Rules) → SoundRules r → (f : Figures) (kind : ℕ) → allowsPause r f kind ≡ true → 1 ≤ pauseSeconds r kind
@@ -148,7 +157,8 @@ pause-takes r sound f kind allowed = by-row (kind - firstPause) allowed
     by-row (suc zero) may = omega (arith, sound .break-low, sound .pauses-rise)
     by-row (suc (suc zero)) may = sound .first-low may
     by-row (suc (suc (suc zero))) may = sound .second-low (and-true {a = hasSplit r} may .0)
-    by-row (suc (suc (suc (suc row)))) may = absurd (not-both may refl)
+    by-row (suc (suc (suc (suc zero)))) may = omega (arith, sound .break-low, sound .pauses-rise, sound .weekly-low)
+    by-row (suc (suc (suc (suc (suc row))))) may = absurd (not-both may refl)
 
 pub pause-short : (r : Rules) → SoundRules r → (kind : ℕ) → pauseSeconds r kind ≤ 1000000
 pause-short r sound kind = by-row (kind - firstPause)
@@ -161,4 +171,5 @@ pause-short r sound kind = by-row (kind - firstPause)
     by-row (suc zero) = sound .rest-high
     by-row (suc (suc zero)) = omega (arith, sound .first-high, break-high)
     by-row (suc (suc (suc zero))) = omega (arith, sound .second-high, break-high)
-    by-row (suc (suc (suc (suc row)))) = omega arith
+    by-row (suc (suc (suc (suc zero)))) = sound .weekly-high
+    by-row (suc (suc (suc (suc (suc row))))) = omega arith

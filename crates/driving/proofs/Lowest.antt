@@ -73,10 +73,10 @@ first-lowest rs low n rise = by (firstBroken rs) refl
         let c = charged rs low (low + n) w rise e in
         rw e (sym (lowest-found (brokenAt rs) low n w (c .from) (c .to) (λ x l h. c .before x h) (c .here)))
 
-pub rules-lowest : (r : Rules) → badRules r ≡ lowest (brokenAt (limitRules r)) 6 6
+pub rules-lowest : (r : Rules) → badRules r ≡ lowest (brokenAt (limitRules r)) 6 8
 unfolding badRules
-rules-lowest r = first-lowest (limitRules r) 6 6 (omega arith)
+rules-lowest r = first-lowest (limitRules r) 6 8 (omega arith)
 
-pub trip-lowest : (junctions : ℕ) (o : Order) → badTrip junctions o ≡ lowest (brokenAt (endRules junctions o ++ figureRules (o .figures) (o .rules))) 0 6
+pub trip-lowest : (junctions : ℕ) (o : Order) → badTrip junctions o ≡ lowest (brokenAt (endRules junctions o ++ figureRules (o .figures) (o .rules))) 0 15
 unfolding badTrip
-trip-lowest junctions o = first-lowest (endRules junctions o ++ figureRules (o .figures) (o .rules)) 0 6 (omega arith)
+trip-lowest junctions o = first-lowest (endRules junctions o ++ figureRules (o .figures) (o .rules)) 0 15 (omega arith)

@@ -24,6 +24,8 @@ pub struct Rules {
     // The parts that together stand for a break, both 0 where the rules have no split.
     pub first_part: Clock,
     pub second_part: Clock,
+    pub week_limit: Wheel,
+    pub weekly_rest: Clock,
 }
 
 impl Rules {
@@ -40,6 +42,10 @@ impl Rules {
 
     pub const EUROPEAN_SECOND_PART: Clock = Clock(1800);
 
+    pub const EUROPEAN_WEEK_LIMIT: Wheel = Wheel(201600);
+
+    pub const EUROPEAN_WEEKLY_REST: Clock = Clock(162000);
+
     // The kinds of pause, as moves number them.
     pub const BREAK: u32 = 2;
 
@@ -49,9 +55,11 @@ impl Rules {
 
     pub const SECOND_PART: u32 = 5;
 
+    pub const WEEKLY_REST: u32 = 6;
+
     pub const FIRST_PAUSE: u32 = Rules::BREAK;
 
-    pub const LAST_PAUSE: u32 = Rules::SECOND_PART;
+    pub const LAST_PAUSE: u32 = Rules::WEEKLY_REST;
 
     pub fn european() -> Rules
         ensures { λ r. ⌜ r ≡ europeanRules ⌝ }
@@ -63,14 +71,18 @@ impl Rules {
             rest_time: Rules::EUROPEAN_REST_TIME,
             first_part: Rules::EUROPEAN_FIRST_PART,
             second_part: Rules::EUROPEAN_SECOND_PART,
+            week_limit: Rules::EUROPEAN_WEEK_LIMIT,
+            weekly_rest: Rules::EUROPEAN_WEEKLY_REST,
         }
     }
 }
 
-// Wheel time since the last pause that cleared it, and since the last rest; whether a first part waits for its second.
+// Wheel time since the last pause that cleared it, since the last rest and since the last weekly rest; whether a first part
+// waits for its second.
 pub struct Figures {
     pub spell: Wheel,
     pub shift: Wheel,
+    pub week: Wheel,
     pub marked: bool,
 }
 
@@ -81,7 +93,7 @@ pub fn unmarked(figures: Figures) -> u32
     if figures.marked { 0 } else { 1 }
 }
 
-// The figures after driving on: one road time is added to spell and shift, and the mark stays.
+// The figures after driving on: one road time is added to spell, shift and week, and the mark stays.
 pub fn driven(figures: Figures, seconds: u32) -> Figures
     requires { ⌜ T (noneAbove (wheelFigures figures) highestLimits) × (seconds ≤ 1440000) ⌝ }
     ensures { λ r. ⌜ r ≡ drivenOn seconds figures ⌝ }
@@ -89,6 +101,7 @@ pub fn driven(figures: Figures, seconds: u32) -> Figures
     Figures {
         spell: Wheel(figures.spell.0 + seconds),
         shift: Wheel(figures.shift.0 + seconds),
+        week: Wheel(figures.week.0 + seconds),
         marked: figures.marked,
     }
 }
@@ -117,7 +130,10 @@ pub fn pause_time(rules: Rules, kind: u32) -> Clock
     if kind == Rules::FIRST_PART {
         return rules.first_part;
     }
-    rules.second_part
+    if kind == Rules::SECOND_PART {
+        return rules.second_part;
+    }
+    rules.weekly_rest
 }
 
 // Whether the rules have a pause of this kind for these figures: a second part needs the mark.
@@ -126,6 +142,9 @@ pub fn allows_pause(rules: Rules, figures: Figures, kind: u32) -> bool
     ensures { λ r. ⌜ r ≡ allowsPause rules figures kind ⌝ }
 {
     if kind < Rules::FIRST_PART {
+        return true;
+    }
+    if kind > Rules::SECOND_PART {
         return true;
     }
     if !has_split(rules) {
@@ -137,17 +156,20 @@ pub fn allows_pause(rules: Rules, figures: Figures, kind: u32) -> bool
     figures.marked
 }
 
-// The figures after a pause of this kind: each but a first part clears spell and the mark, and a rest clears shift too.
+// The figures after a pause of this kind: each but a first part clears spell and the mark, a rest clears shift too, and a
+// weekly rest everything.
 pub fn cleared(figures: Figures, kind: u32) -> Figures
     requires { ⌜ (firstPause ≤ kind) × (kind ≤ lastPause) ⌝ }
     ensures { λ r. ⌜ r ≡ cleared kind figures ⌝ }
 {
     let spell = figures.spell;
     let shift = figures.shift;
+    let week = figures.week;
     if kind == Rules::REST {
         return Figures {
             spell: Wheel(0),
             shift: Wheel(0),
+            week,
             marked: false,
         };
     }
@@ -155,12 +177,22 @@ pub fn cleared(figures: Figures, kind: u32) -> Figures
         return Figures {
             spell,
             shift,
+            week,
             marked: true,
+        };
+    }
+    if kind == Rules::WEEKLY_REST {
+        return Figures {
+            spell: Wheel(0),
+            shift: Wheel(0),
+            week: Wheel(0),
+            marked: false,
         };
     }
     Figures {
         spell: Wheel(0),
         shift,
+        week,
         marked: false,
     }
 }
@@ -176,7 +208,7 @@ pub struct Order {
 }
 
 impl Order {
-    pub const BYTES: usize = 48;
+    pub const BYTES: usize = 60;
 }
 
 fn read_figures(bytes: &[u8]) -> Figures
@@ -186,6 +218,7 @@ fn read_figures(bytes: &[u8]) -> Figures
     Figures {
         spell: Wheel(words::word(bytes, 16)),
         shift: Wheel(words::word(bytes, 20)),
+        week: Wheel(words::word(bytes, 56)),
         marked: false,
     }
 }
@@ -201,6 +234,8 @@ fn read_rules(bytes: &[u8]) -> Rules
         rest_time: Clock(words::word(bytes, 36)),
         first_part: Clock(words::word(bytes, 40)),
         second_part: Clock(words::word(bytes, 44)),
+        week_limit: Wheel(words::word(bytes, 48)),
+        weekly_rest: Clock(words::word(bytes, 52)),
     }
 }
 
@@ -250,7 +285,7 @@ fn part_taken(rules: Rules, part: u32) -> bool
     true
 }
 
-// The rules alone: words 6 to 11 of an order, or rules that stand in none.
+// The rules alone: words 6 to 13 of an order, or rules that stand in none.
 pub fn check_rules(rules: Rules) -> Check
     ensures { λ r. ⌜ toldCheck r ≡ firstOf ((10 at badRules rules) ∷ []) (succeeded 0 0) ⌝ }
 {
@@ -260,6 +295,8 @@ pub fn check_rules(rules: Rules) -> Check
     let rest_time = rules.rest_time.0;
     let first = rules.first_part.0;
     let second = rules.second_part.0;
+    let week_limit = rules.week_limit.0;
+    let weekly_rest = rules.weekly_rest.0;
     let first_taken = part_taken(rules, first);
     let second_taken = part_taken(rules, second);
     let check = ruled(Check::Passed, 1 <= spell_limit, Refusal::BadRules(6));
@@ -271,7 +308,11 @@ pub fn check_rules(rules: Rules) -> Check
     let check = ruled(check, first_taken, Refusal::BadRules(10));
     let check = ruled(check, first <= break_time, Refusal::BadRules(10));
     let check = ruled(check, second_taken, Refusal::BadRules(11));
-    ruled(check, second <= break_time, Refusal::BadRules(11))
+    let check = ruled(check, second <= break_time, Refusal::BadRules(11));
+    let check = ruled(check, shift_limit <= week_limit, Refusal::BadRules(12));
+    let check = ruled(check, week_limit <= 1000000, Refusal::BadRules(12));
+    let check = ruled(check, rest_time <= weekly_rest, Refusal::BadRules(13));
+    ruled(check, weekly_rest <= 1000000, Refusal::BadRules(13))
 }
 
 // The trip's ends, words 0 to 3 of an order, on a map of so many junctions.
@@ -290,20 +331,24 @@ fn check_ends(order: Order, junctions: u32) -> Check
     ruled(check, latest <= 2000000000, Refusal::BadTrip(3))
 }
 
-// Starting figures against rules: words 4 and 5 of an order, or figures that stand in none.
+// Starting figures against rules: words 4, 5 and 14 of an order, or figures that stand in none.
 pub fn check_figures(figures: Figures, rules: Rules) -> Check
     ensures { λ r. ⌜ toldCheck r ≡ firstOf ((11 at badFigures figures rules) ∷ []) (succeeded 0 0) ⌝ }
 {
     let spell = figures.spell.0;
     let shift = figures.shift.0;
+    let week = figures.week.0;
     let spell_limit = rules.spell_limit.0;
     let shift_limit = rules.shift_limit.0;
+    let week_limit = rules.week_limit.0;
     let check = ruled(Check::Passed, spell <= spell_limit, Refusal::BadTrip(4));
     let check = ruled(check, spell <= shift, Refusal::BadTrip(5));
-    ruled(check, shift <= shift_limit, Refusal::BadTrip(5))
+    let check = ruled(check, shift <= shift_limit, Refusal::BadTrip(5));
+    let check = ruled(check, shift <= week, Refusal::BadTrip(14));
+    ruled(check, week <= week_limit, Refusal::BadTrip(14))
 }
 
-// The trip: words 0 to 5.
+// The trip: words 0 to 5, then 14.
 pub fn check_trip(order: Order, junctions: u32) -> Check
     ensures { λ r. ⌜ toldCheck r ≡ firstOf ((11 at badTrip junctions order) ∷ []) (succeeded 0 0) ⌝ }
 {

@@ -70,7 +70,7 @@ module _ (trip : Trip) where
   pub leads-one : {s t u : State} {ms : List Move} → Leads trip s ms t → Leads trip s ms u → t ≡ u
   leads-one p q = let a = leads-timed p in let b = leads-timed q in cc
 
-  -- arrival less departure is the sum of road times, breaks and rests, a part of a break counting as a break
+  -- arrival less departure is the sum of road times, breaks and rests, a part of a break counting as a break and a weekly rest as a rest
   pub leads-clock : {s t : State} {ms : List Move} → Leads trip s ms t → t .clock .0 ≡ s .clock .0 + totalSeconds trip ms
   unfolding totalSeconds
   leads-clock {s} stay = omega arith

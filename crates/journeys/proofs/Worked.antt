@@ -1,11 +1,11 @@
 -- Small worked trips beside document 01's, computed from the definitions: ties between moves, parents and ranks, a pause at source,
--- and source equal to target. Assumes nothing.
+-- source equal to target, the split, and a trip of more than a week's driving. Assumes nothing.
 use mathlib.Core.Bool.{Bool, true, false, _&&_}
 use mathlib.Core.List.{List, [], _∷_}
 use Prim.Native.Nat.{ℕ}
 use lib.Dec.{T}
 use Rattle.replies.specs.declared.Reply.{Reply}
-use Rattle.replies.specs.Told.{succeeded}
+use Rattle.replies.specs.Told.{succeeded, refusedAt}
 use Rattle.replies.specs.Alike.{sameReply}
 use Rattle.driving.specs.declared.Rules.{Rules}
 use Rattle.driving.specs.Order.{rulesOf}
@@ -27,7 +27,7 @@ record Worked : Type 0 where
 abbrev road : ℕ → ℕ → ℕ → Stretch
 road from to seconds = record { from = from; to = to; seconds = seconds }
 
--- from source to target, departure 0, by these rules and latest arrival, with this spell and shift
+-- from source to target, departure 0, by these rules and latest arrival, with this spell, shift and week
 abbrev tripUnder : Rules → ℕ → List Stretch → List Bool → ℕ → ℕ → ℕ → Trip
 tripUnder rules latest roads parks source target spell =
     record {
@@ -39,14 +39,24 @@ tripUnder rules latest roads parks source target spell =
             target = target;
             departure = record { 0 = 0 };
             latest = record { 0 = latest };
-            figures = record { spell = record { 0 = spell }; shift = record { 0 = spell }; marked = false };
+            figures = record { spell = record { 0 = spell }; shift = record { 0 = spell }; week = record { 0 = spell }; marked = false };
             rules = rules;
           };
     }
 
 -- by the European rules with no split, latest 3,000
 abbrev tripBy : List Stretch → List Bool → ℕ → ℕ → ℕ → Trip
-tripBy = tripUnder (rulesOf 16200 2700 32400 39600 0 0) 3000
+tripBy = tripUnder (rulesOf 16200 2700 32400 39600 0 0 201600 162000) 3000
+
+-- a week of two roads of these three, each as long as a shift; no split
+abbrev weekRules : Rules
+weekRules = rulesOf 20 5 20 10 0 0 40 20
+
+abbrev weekRoads : List Stretch
+weekRoads = road 1 2 20 ∷ road 2 3 20 ∷ road 3 4 20 ∷ []
+
+abbrev weekParks : List Bool
+weekParks = false ∷ true ∷ true ∷ false ∷ []
 
 works : Worked → Bool
 unfolding searchReply answerIn labelsIn planMoves planRows noneAbove sameEach lexicographic
@@ -91,21 +101,34 @@ cases =
     }
     -- two parts that are together shorter than the break; the second needs the first, and the first leaves spell
     ∷ record {
-      trip = tripUnder (rulesOf 100 45 1000 500 10 20) 160 (road 1 2 40 ∷ road 2 3 40 ∷ road 3 4 40 ∷ []) (false ∷ false ∷ true ∷ false ∷ []) 1 4 0;
+      trip = tripUnder (rulesOf 100 45 1000 500 10 20 1000 500) 160 (road 1 2 40 ∷ road 2 3 40 ∷ road 3 4 40 ∷ []) (false ∷ false ∷ true ∷ false ∷ []) 1 4 0;
       reply = succeeded 7 150;
       rows = row 1 1 40 ∷ row 1 2 80 ∷ row 4 3 90 ∷ row 5 3 110 ∷ row 1 3 150 ∷ [];
     }
     -- the mark is kept over a drive: the first part at junction 2, the second at junction 3
     ∷ record {
-      trip = tripUnder (rulesOf 100 45 1000 500 10 20) 160 (road 1 2 40 ∷ road 2 3 40 ∷ road 3 4 40 ∷ []) (false ∷ true ∷ true ∷ false ∷ []) 1 4 0;
+      trip = tripUnder (rulesOf 100 45 1000 500 10 20 1000 500) 160 (road 1 2 40 ∷ road 2 3 40 ∷ road 3 4 40 ∷ []) (false ∷ true ∷ true ∷ false ∷ []) 1 4 0;
       reply = succeeded 10 150;
       rows = row 1 1 40 ∷ row 4 2 50 ∷ row 1 2 90 ∷ row 5 3 110 ∷ row 1 3 150 ∷ [];
     }
-    -- of equal clock, spell and shift the marked one ranks lower, at junction 5 with the mark than at target 3 without: it is counted
+    -- of equal clock, spell, shift and week the marked one ranks lower, at junction 5 with the mark than at target 3 without: it is counted
     ∷ record {
-      trip = tripUnder (rulesOf 25 25 25 30 10 10) 70 (road 1 2 20 ∷ road 1 4 10 ∷ road 2 3 20 ∷ road 4 5 20 ∷ []) (false ∷ true ∷ false ∷ true ∷ false ∷ []) 1 3 0;
+      trip = tripUnder (rulesOf 25 25 25 30 10 10 1000 100) 70 (road 1 2 20 ∷ road 1 4 10 ∷ road 2 3 20 ∷ road 4 5 20 ∷ []) (false ∷ true ∷ false ∷ true ∷ false ∷ []) 1 3 0;
       reply = succeeded 16 70;
       rows = row 1 1 20 ∷ row 3 2 50 ∷ row 1 3 70 ∷ [];
+    }
+    -- more than a week's driving: after the second road the week is at its limit, so that a rest at junction 3 does not help; the weekly
+    -- rest at junction 2 arrives as early, with more of the week driven
+    ∷ record {
+      trip = tripUnder weekRules 90 weekRoads weekParks 1 4 0;
+      reply = succeeded 12 90;
+      rows = row 1 1 20 ∷ row 3 2 30 ∷ row 1 2 50 ∷ row 6 3 70 ∷ row 1 3 90 ∷ [];
+    }
+    -- one second less, and there is no road
+    ∷ record {
+      trip = tripUnder weekRules 89 weekRoads weekParks 1 4 0;
+      reply = refusedAt 13 11;
+      rows = [];
     }
     ∷ []
 

@@ -1,4 +1,4 @@
--- Two runs compared, by their bytes. Document 01, "Two runs compared", and document 02, P5. Assumes nothing.
+-- Two runs compared, by their bytes. Document 01, "Two runs compared", and document 02, P5 and P7. Assumes nothing.
 use mathlib.Core.Path.{_≡_}
 use mathlib.Core.List.{List}
 use Prim.Native.Nat.{ℕ, _≤_}

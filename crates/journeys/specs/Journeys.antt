@@ -12,7 +12,7 @@ use Rattle.moves.specs.Moves.{offers, offered, after, moveSeconds}
 use Rattle.states.specs.States.{startOf, legal, dominatesState}
 use Rattle.theory.specs.Lists.{keep}
 
--- a journey starts at source with words 2, 4, 5
+-- a journey starts at source with words 2, 4, 5, 14
 abbrev pub startIn : Trip → State
 startIn trip = startOf (trip .order)
 
@@ -37,7 +37,7 @@ timed trip s [] = some s
 timed trip s (m ∷ ms) =
     elim (offers trip s m && legal (trip .order) (after trip s m)) [ true ↦ timed trip (after trip s m) ms | false ↦ none ]
 
--- the sum of road times, breaks and rests; a part of a break counts as a break
+-- the sum of road times, breaks and rests; a part of a break counts as a break, and a weekly rest as a rest
 unfoldable pub totalSeconds : Trip → List Move → ℕ
 unfolding moveSeconds
 totalSeconds trip [] = 0

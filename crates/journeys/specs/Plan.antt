@@ -58,7 +58,7 @@ planMoves trip = let L = labelsIn trip in movesOf trip L (answerIn trip)
 abbrev pub moveCount : Trip → ℕ
 moveCount trip = length (planMoves trip)
 
--- the sheet's length: five words, then M records of three words
+-- the sheet's length: six words, then M records of three words
 abbrev pub bytesNeeded : Trip → ℕ
 bytesNeeded trip = sheetNeeded (moveCount trip)
 
@@ -74,11 +74,11 @@ unfoldable pub planRows : Trip → List Row
 unfolding rowsFrom planMoves
 planRows trip = rowsFrom trip (startIn trip) (planMoves trip)
 
--- the header: moves M, arrival, spell, shift, N
+-- the header: moves M, arrival, spell, shift, week, N
 abbrev pub headingAt : Trip → State → Heading
 headingAt trip a = headingFor (moveCount trip) a (labelCount trip)
 
--- the sheet afterwards, where there is an answer: header and records, bytes after 20 + 12M stay
+-- the sheet afterwards, where there is an answer: header and records, bytes after 24 + 12M stay
 abbrev pub plannedSheet : Trip → Option State → List ℕ → List ℕ
 plannedSheet trip none before = before
 plannedSheet trip (some a) before = sheetAfter (headingAt trip a) (planRows trip) before

@@ -1,5 +1,5 @@
--- The starred trial trips of document 01, with road times as document 02 (P2) rounds them, and T with Europe's parts (P5), proved together:
--- antt computes one test. Assumes nothing.
+-- The starred trial trips of document 01, with road times as document 02 (P2) rounds them, T with Europe's parts (P5) and T at the end of
+-- a driver's week (P7), proved together: antt computes one test. Assumes nothing.
 use mathlib.Core.Bool.{Bool, true, false, not, _&&_}
 use mathlib.Core.List.{List, [], _∷_, _++_}
 use mathlib.Core.Option.{Option, none, some}
@@ -38,31 +38,35 @@ mapT =
 
 -- the European order 1 to 3, departure 0, with this latest arrival; T keeps both parts zero
 abbrev pub orderT : ℕ → List ℕ
-orderT latest = spelled (1 ∷ 3 ∷ 0 ∷ latest ∷ 0 ∷ 0 ∷ 16200 ∷ 2700 ∷ 32400 ∷ 39600 ∷ 0 ∷ 0 ∷ [])
+orderT latest = spelled (1 ∷ 3 ∷ 0 ∷ latest ∷ 0 ∷ 0 ∷ 16200 ∷ 2700 ∷ 32400 ∷ 39600 ∷ 0 ∷ 0 ∷ 201600 ∷ 162000 ∷ 0 ∷ [])
 
 abbrev pub tripT : Trip
 tripT = tripFrom mapT (orderT 100000)
 
 -- the same with Europe's parts
 abbrev pub splitOrderT : ℕ → List ℕ
-splitOrderT latest = spelled (1 ∷ 3 ∷ 0 ∷ latest ∷ 0 ∷ 0 ∷ 16200 ∷ 2700 ∷ 32400 ∷ 39600 ∷ 900 ∷ 1800 ∷ [])
+splitOrderT latest = spelled (1 ∷ 3 ∷ 0 ∷ latest ∷ 0 ∷ 0 ∷ 16200 ∷ 2700 ∷ 32400 ∷ 39600 ∷ 900 ∷ 1800 ∷ 201600 ∷ 162000 ∷ 0 ∷ [])
 
--- state (clock; spell; shift) at this junction, with the mark or without
-abbrev pub stateAt : ℕ → ℕ → ℕ → ℕ → Bool → State
-stateAt junction clock spell shift marked =
+-- the same with no split, by a driver who has driven so much of the week
+abbrev pub weekOrderT : ℕ → ℕ → List ℕ
+weekOrderT week latest = spelled (1 ∷ 3 ∷ 0 ∷ latest ∷ 0 ∷ 0 ∷ 16200 ∷ 2700 ∷ 32400 ∷ 39600 ∷ 0 ∷ 0 ∷ 201600 ∷ 162000 ∷ week ∷ [])
+
+-- state (clock; spell; shift; week) at this junction, with the mark or without
+abbrev pub stateAt : ℕ → ℕ → ℕ → ℕ → ℕ → Bool → State
+stateAt junction clock spell shift week marked =
     record {
       junction = junction;
       clock = record { 0 = clock };
-      figures = record { spell = record { 0 = spell }; shift = record { 0 = shift }; marked = marked };
+      figures = record { spell = record { 0 = spell }; shift = record { 0 = shift }; week = record { 0 = week }; marked = marked };
     }
 
--- at Lay, without the mark
+-- at Lay in the first shift of a week, without the mark
 abbrev pub atLay : ℕ → ℕ → ℕ → State
-atLay clock spell shift = stateAt 2 clock spell shift false
+atLay clock spell shift = stateAt 2 clock spell shift shift false
 
 -- and with it
 abbrev pub markedAtLay : ℕ → ℕ → ℕ → State
-markedAtLay clock spell shift = stateAt 2 clock spell shift true
+markedAtLay clock spell shift = stateAt 2 clock spell shift shift true
 
 -- one case, with what it must come to
 pub data Case : Type 0 where
@@ -88,11 +92,11 @@ row kind number clock = record { kind = kind; number = number; clock = record { 
 
 -- T's sheet with this N: header and records
 abbrev pub sheetT : ℕ → List ℕ
-sheetT labels = 3 ∷ 20700 ∷ 7200 ∷ 18000 ∷ labels ∷ 1 ∷ 1 ∷ 10800 ∷ 2 ∷ 2 ∷ 13500 ∷ 1 ∷ 2 ∷ 20700 ∷ []
+sheetT labels = 3 ∷ 20700 ∷ 7200 ∷ 18000 ∷ 18000 ∷ labels ∷ 1 ∷ 1 ∷ 10800 ∷ 2 ∷ 2 ∷ 13500 ∷ 1 ∷ 2 ∷ 20700 ∷ []
 
 -- a sheet as long, before anything is written
 abbrev pub blankSheet : List ℕ
-blankSheet = spelled (0 ∷ 0 ∷ 0 ∷ 0 ∷ 0 ∷ 0 ∷ 0 ∷ 0 ∷ 0 ∷ 0 ∷ 0 ∷ 0 ∷ 0 ∷ 0 ∷ [])
+blankSheet = spelled (0 ∷ 0 ∷ 0 ∷ 0 ∷ 0 ∷ 0 ∷ 0 ∷ 0 ∷ 0 ∷ 0 ∷ 0 ∷ 0 ∷ 0 ∷ 0 ∷ 0 ∷ [])
 
 abbrev pub sameBool : Bool → Bool → Bool
 sameBool true b = b
@@ -127,7 +131,7 @@ right (drives spell is) = sameBool (legal (tripT .order) (after tripT (atLay 0 s
 right (dominating b a is) = sameBool (dominatesState b a) is
 
 -- in the order of document 01, its road times followed by some that lie halfway between two seconds; then T's sheet, and T with Europe's
--- parts: its N is 6, and of the sheet nothing else changes
+-- parts: its N is 6, and of the sheet nothing else changes; then T by a driver whose week ends at Lay
 abbrev pub starredCases : List Case
 starredCases =
     takes 240000 80 10800
@@ -141,32 +145,38 @@ starredCases =
     ∷ takes 45 36 4
     ∷ takes 15 36 2
     ∷ takes 5 36 1
-    ∷ answers (20700 ∷ 7200 ∷ 18000 ∷ 1 ∷ [])
-    ∷ replies (orderT 100000) 4 56 (succeeded 4 20700)
-    ∷ replies (orderT 100000) 3 56 (refusedAt 12 3)
-    ∷ replies (orderT 20700) 4 56 (succeeded 4 20700)
-    ∷ replies (orderT 20699) 4 56 (refusedAt 13 3)
+    ∷ answers (20700 ∷ 7200 ∷ 18000 ∷ 18000 ∷ 1 ∷ [])
+    ∷ replies (orderT 100000) 4 60 (succeeded 4 20700)
+    ∷ replies (orderT 100000) 3 60 (refusedAt 12 3)
+    ∷ replies (orderT 20700) 4 60 (succeeded 4 20700)
+    ∷ replies (orderT 20699) 4 60 (refusedAt 13 3)
     ∷ drives 9000 true
     ∷ drives 9001 false
     ∷ dominating (atLay 10000 10000 10000) (atLay 13000 300 10300) false
     ∷ dominating (atLay 13000 300 10300) (atLay 10000 10000 10000) false
     ∷ dominating (atLay 10000 10000 10000) (atLay 10000 10000 10000) false
     ∷ lists (orderT 100000) (row 1 1 10800 ∷ row 2 2 13500 ∷ row 1 2 20700 ∷ [])
-    ∷ replies (orderT 100000) 4 55 (refusedAt 14 56)
+    ∷ replies (orderT 100000) 4 59 (refusedAt 14 60)
     ∷ writes (orderT 100000) 4 (sheetT 4)
     ∷ writes (splitOrderT 30000) 6 (sheetT 6)
-    ∷ replies (splitOrderT 30000) 5 56 (refusedAt 12 5)
+    ∷ replies (splitOrderT 30000) 5 60 (refusedAt 12 5)
     ∷ labelled (splitOrderT 30000)
-    (stateAt 1 0 0 0 false
+    (stateAt 1 0 0 0 0 false
     ∷ atLay 10800 10800 10800
     ∷ markedAtLay 11700 10800 10800
     ∷ atLay 13500 0 10800
     ∷ markedAtLay 14400 0 10800
-    ∷ stateAt 3 20700 7200 18000 false
+    ∷ stateAt 3 20700 7200 18000 18000 false
     ∷ [])
     ∷ dominating (markedAtLay 10000 10000 10000) (atLay 10000 10000 10000) true
     ∷ dominating (atLay 10000 10000 10000) (markedAtLay 10000 10000 10000) false
     ∷ dominating (atLay 10000 10000 10000) (markedAtLay 13000 10000 10000) false
+    ∷ dominating (stateAt 2 10000 100 200 300 false) (stateAt 2 10000 100 200 301 false) true
+    ∷ dominating (stateAt 2 10000 100 200 301 false) (stateAt 2 10000 100 200 300 false) false
+    ∷ dominating (stateAt 2 10000 100 200 301 false) (stateAt 2 13000 300 300 300 false) false
+    ∷ dominating (stateAt 2 10000 100 200 301 true) (stateAt 2 10000 100 200 300 false) false
+    ∷ writes (weekOrderT 190800 180000) 6 (3 ∷ 180000 ∷ 7200 ∷ 7200 ∷ 7200 ∷ 6 ∷ 1 ∷ 1 ∷ 10800 ∷ 6 ∷ 2 ∷ 172800 ∷ 1 ∷ 2 ∷ 180000 ∷ [])
+    ∷ replies (weekOrderT 190800 179999) 5 60 (refusedAt 13 5)
     ∷ []
 
 pub starred : T (every right starredCases)

@@ -16,7 +16,7 @@ use Rattle.states.specs.LabelSpace.{labelWords}
 use Rattle.driving.specs.Hours.{unmarked}
 use Rattle.driving.proofs.Hours.{mark-told, mark-high}
 use Rattle.labels.specs.declared.Candidate.{Candidate}
-use Rattle.labels.specs.LabelWords.{stateWords, placeField, clockField, spellField, shiftField, parentField, cursorField, winnerField, previousField, ownField, at, field, previousOf, labelAt, candidateOf, cursorWord, Packs, junctionBase, wordsOf, settled, column, Same, SameLabels, Added, puts}
+use Rattle.labels.specs.LabelWords.{stateWords, placeField, clockField, spellField, shiftField, weekField, parentField, cursorField, winnerField, previousField, ownField, at, field, previousOf, labelAt, candidateOf, cursorWord, Packs, junctionBase, wordsOf, settled, column, Same, SameLabels, Added, puts}
 
 -- A word that is stored is read, and no other word of the labels changes.
 module _ (ws : List ℕ) (k f v : ℕ) (small : f < labelWords) where
@@ -79,7 +79,7 @@ module _ (ws ws′ : List ℕ) (n : ℕ) (kept : (p : ℕ) → p < labelWords * 
 
 pub same-label : (ws ws′ : List ℕ) (n : ℕ) → SameLabels ws ws′ n → (k : ℕ) → 1 ≤ k → k ≤ n → labelAt ws′ k ≡ labelAt ws k
 same-label ws ws′ n same k low high =
-    rw (word placeField (omega arith), word clockField (omega arith), word spellField (omega arith), word shiftField (omega arith))
+    rw (word placeField (omega arith), word clockField (omega arith), word spellField (omega arith), word shiftField (omega arith), word weekField (omega arith))
   where
     word : (f : ℕ) → f < stateWords → field ws′ k f ≡ field ws k f
     word f small = same .states f small k low high
@@ -198,7 +198,7 @@ module _ (ws : List ℕ) (n : ℕ) (label : State) (parent : ℕ) (c : Candidate
   is-label : labelAt ws′ (n + 1) ≡ label
   is-label =
       let m = mark-high (label .figures .marked) in
-      rw (word placeField (omega arith), word clockField (omega arith), word spellField (omega arith), word shiftField (omega arith), half (label .junction) (unmarked (label .figures)) m, rest (label .junction) (unmarked (label .figures)) m, mark-told (label .figures .marked))
+      rw (word placeField (omega arith), word clockField (omega arith), word spellField (omega arith), word shiftField (omega arith), word weekField (omega arith), half (label .junction) (unmarked (label .figures)) m, rest (label .junction) (unmarked (label .figures)) m, mark-told (label .figures .marked))
 
   is-candidate : candidateOf ws′ (n + 1) ≡ c
   is-candidate = word-candidate ws′ (n + 1) c packs (word cursorField (omega arith)) (word ownField (omega arith))

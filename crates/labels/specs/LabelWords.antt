@@ -21,7 +21,7 @@ junctionBase = 16384
 
 -- which of a label's words is which: the state's first, its place and its times
 abbrev pub stateWords : ℕ
-stateWords = 4
+stateWords = 5
 
 -- twice the junction, and one more without the mark
 abbrev pub placeField : ℕ
@@ -36,25 +36,28 @@ spellField = 2
 abbrev pub shiftField : ℕ
 shiftField = 3
 
+abbrev pub weekField : ℕ
+weekField = 4
+
 -- the label that this one was made from
 abbrev pub parentField : ℕ
-parentField = 4
+parentField = 5
 
 -- the cursor, which says what successor of the label is its candidate, the candidate's junction, and whether others may be left
 abbrev pub cursorField : ℕ
-cursorField = 5
+cursorField = 6
 
 -- the label with the least candidate in this node's subtree of the winner tree
 abbrev pub winnerField : ℕ
-winnerField = 6
+winnerField = 7
 
 -- the last label before this one at the same junction, 0 if none
 abbrev pub previousField : ℕ
-previousField = 7
+previousField = 8
 
 -- the clock of the label's candidate
 abbrev pub ownField : ℕ
-ownField = 8
+ownField = 9
 
 -- where word f of label k stands
 abbrev pub at : ℕ → ℕ → ℕ
@@ -97,6 +100,7 @@ labelAt ws k =
           record {
             spell = record { 0 = field ws k spellField };
             shift = record { 0 = field ws k shiftField };
+            week = record { 0 = field ws k weekField };
             marked = eqb (field ws k placeField % 2) 0;
           };
     }

@@ -22,15 +22,17 @@ const SPELL: usize = 2;
 
 const SHIFT: usize = 3;
 
-const PARENT: usize = 4;
+const WEEK: usize = 4;
 
-const CURSOR: usize = 5;
+const PARENT: usize = 5;
 
-const WINNER: usize = 6;
+const CURSOR: usize = 6;
 
-const PREVIOUS: usize = 7;
+const WINNER: usize = 7;
 
-const OWN: usize = 8;
+const PREVIOUS: usize = 8;
+
+const OWN: usize = 9;
 
 const LARGEST_WORD: u32 = 4294967295;
 
@@ -78,6 +80,7 @@ pub fn read_label(words: &[u32], k: usize) -> State
         figures: Figures {
             spell: Wheel(field(words, k, SPELL)),
             shift: Wheel(field(words, k, SHIFT)),
+            week: Wheel(field(words, k, WEEK)),
             marked: place % 2 == 0,
         },
     }
@@ -216,6 +219,7 @@ fn store(
     words[i + CLOCK] = label.clock.0;
     words[i + SPELL] = label.figures.spell.0;
     words[i + SHIFT] = label.figures.shift.0;
+    words[i + WEEK] = label.figures.week.0;
     words[i + PARENT] = parent;
     words[i + CURSOR] = cursor;
     words[i + WINNER] = winner;

@@ -91,7 +91,7 @@ run-sound map run accepted =
     let top : run .struck ≤ roadCount map = accepted .known in
     rw (road-in map (run .order) (run .struck) low top, junctions-in map (run .order)) (roads (run .struck) low top .from .above, roads (run .struck) low top .from .below))
 
--- arrival less departure is the sum of road times, breaks, rests and parts of breaks
+-- arrival less departure is the sum of road times, breaks, rests, parts of breaks and weekly rests
 pub clock-after : (trip : Trip) (s : State) (m : Move) → after trip s m .clock .0 ≡ s .clock .0 + moveSeconds trip m
 unfolding after moveSeconds
 clock-after trip s m =

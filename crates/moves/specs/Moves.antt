@@ -1,4 +1,4 @@
--- The moves: which are offered, and what they lead to. Document 01, "Moves", and document 02, P5. Assumes nothing.
+-- The moves: which are offered, and what they lead to. Document 01, "Moves", and document 02, P5 and P7. Assumes nothing.
 use mathlib.Core.Bool.{Bool, true, false, _&&_}
 use mathlib.Core.List.{List, [], _∷_, _++_}
 use Prim.Native.Nat.{ℕ, _+_}
@@ -11,7 +11,7 @@ use Rattle.moves.specs.declared.Move.{Move}
 use Rattle.moves.specs.declared.Step.{Step}
 use Rattle.moves.specs.Trip.{Stretch, Trip, counted, roadIn, parkIn, roadsIn}
 
--- kinds: 1 drive, 2 break, 3 rest, 4 first part, 5 second part; the number is the road's, or the pausing junction's
+-- kinds: 1 drive, 2 break, 3 rest, 4 first part, 5 second part, 6 weekly; the number is the road's, or the pausing junction's
 abbrev pub move : ℕ → ℕ → Move
 move kind number = record { kind = kind; number = number }
 
@@ -32,7 +32,7 @@ offersKind false trip s m = eqb (m .number) (s .junction) && mayPause trip s (m 
 unfoldable pub offers : Trip → State → Move → Bool
 offers trip s m = offersKind (eqb (m .kind) 1) trip s m
 
--- drive: its time is added to clock, spell and shift
+-- drive: its time is added to clock, spell, shift and week
 abbrev pub driven : Stretch → State → State
 driven road s =
     record {
@@ -57,7 +57,7 @@ afterKind false trip s m = paused (m .kind) (trip .order .rules) s
 unfoldable pub after : Trip → State → Move → State
 after trip s m = afterKind (eqb (m .kind) 1) trip s m
 
--- what a move adds to the clock: a road time, a break, a rest or a part of a break
+-- what a move adds to the clock: a road time, a break, a rest, a part of a break or a weekly rest
 abbrev pub secondsKind : Bool → Trip → Move → ℕ
 secondsKind true trip m = roadIn trip (m .number) .seconds
 secondsKind false trip m = pauseSeconds (trip .order .rules) (m .kind)

@@ -84,7 +84,10 @@ fn put_kind(page: &mut [u8; PAGE_BYTES], used: usize, kind: u32) -> usize {
     if kind == Rules::FIRST_PART {
         return put_text(page, used, b"first");
     }
-    put_text(page, used, b"second")
+    if kind == Rules::SECOND_PART {
+        return put_text(page, used, b"second");
+    }
+    put_text(page, used, b"weekly")
 }
 
 // The junction that a move leads to: where the road ends, or where the pause is.

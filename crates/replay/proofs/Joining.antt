@@ -11,7 +11,7 @@ use Rattle.booleans.proofs.Tests.{cases}
 use Rattle.driving.specs.declared.Figures.{Figures}
 use Rattle.driving.specs.declared.Rules.{Rules}
 use Rattle.driving.specs.Accepted.{SoundRules}
-use Rattle.driving.specs.Hours.{hasSplit, afterBreak, afterRest, afterFirst, afterSecond}
+use Rattle.driving.specs.Hours.{hasSplit, afterBreak, afterRest, afterFirst, afterSecond, afterWeekly}
 use Rattle.replay.specs.declared.TraceRecord.{TraceRecord}
 use Rattle.replay.specs.Trace.{driving, pause, isDriving, isPause, pauseOf, pausedBefore, joined}
 use Rattle.replay.specs.Replay.{afterShortPause, afterPause, afterEach, mostSeconds}
@@ -30,14 +30,19 @@ too-short false short = refl
 
 -- a pause by its length
 module _ (rules : Rules) (seconds : ℕ) (f : Figures) where
-  pub clears-both : rules .«rest_time» .0 ≤ seconds → afterPause rules seconds f ≡ afterRest f
-  clears-both rests = rw (le-leb (rules .«rest_time» .0) seconds rests)
+  pub clears-all : rules .«weekly_rest» .0 ≤ seconds → afterPause rules seconds f ≡ afterWeekly f
+  clears-all weekly = rw (le-leb (rules .«weekly_rest» .0) seconds weekly)
 
-  pub clears-spell : seconds < rules .«rest_time» .0 → rules .«break_time» .0 ≤ seconds → afterPause rules seconds f ≡ afterBreak f
-  clears-spell no-rest breaks = rw (lt-leb (rules .«rest_time» .0) seconds no-rest, le-leb (rules .«break_time» .0) seconds breaks)
+  pub clears-both : seconds < rules .«weekly_rest» .0 → rules .«rest_time» .0 ≤ seconds → afterPause rules seconds f ≡ afterRest f
+  clears-both no-weekly rests = rw (lt-leb (rules .«weekly_rest» .0) seconds no-weekly, le-leb (rules .«rest_time» .0) seconds rests)
 
-  pub is-short : seconds < rules .«rest_time» .0 → seconds < rules .«break_time» .0 → afterPause rules seconds f ≡ afterShortPause rules seconds f
-  is-short no-rest no-break = rw (lt-leb (rules .«rest_time» .0) seconds no-rest, lt-leb (rules .«break_time» .0) seconds no-break)
+  pub clears-spell : seconds < rules .«weekly_rest» .0 → seconds < rules .«rest_time» .0 → rules .«break_time» .0 ≤ seconds → afterPause rules seconds f ≡ afterBreak f
+  clears-spell no-weekly no-rest breaks =
+      rw (lt-leb (rules .«weekly_rest» .0) seconds no-weekly, lt-leb (rules .«rest_time» .0) seconds no-rest, le-leb (rules .«break_time» .0) seconds breaks)
+
+  pub is-short : seconds < rules .«weekly_rest» .0 → seconds < rules .«rest_time» .0 → seconds < rules .«break_time» .0 → afterPause rules seconds f ≡ afterShortPause rules seconds f
+  is-short no-weekly no-rest no-break =
+      rw (lt-leb (rules .«weekly_rest» .0) seconds no-weekly, lt-leb (rules .«rest_time» .0) seconds no-rest, lt-leb (rules .«break_time» .0) seconds no-break)
 
   -- one shorter than the break, by the split, the mark and the parts
   pub no-part : hasSplit rules ≡ false → afterShortPause rules seconds f ≡ f
@@ -141,14 +146,14 @@ module _ (rules : Rules) (sound : SoundRules rules) where
   -- does
   pub no-pause : (f : Figures) → afterPause rules 0 f ≡ f
   no-pause f =
-      is-short rules 0 f (omega (arith, sound)) (omega (arith, sound))
+      is-short rules 0 f (omega (arith, sound)) (omega (arith, sound)) (omega (arith, sound))
       ∙ ⊎-elim
       (λ (split : hasSplit rules ≡ true). neither-part rules 0 f split (too-short (f .marked) (lt-leb _ _ (sound .second-low split))) (sound .first-low split))
       (λ (no-split : hasSplit rules ≡ false). no-part rules 0 f no-split)
       (cases (hasSplit rules))
 
   long-pause : (a b : ℕ) (f : Figures) → mostSeconds ≤ a → mostSeconds ≤ b → afterPause rules a f ≡ afterPause rules b f
-  long-pause a b f long-a long-b = clears-both rules a f (omega (arith, sound)) ∙ sym (clears-both rules b f (omega (arith, sound)))
+  long-pause a b f long-a long-b = clears-all rules a f (omega (arith, sound)) ∙ sym (clears-all rules b f (omega (arith, sound)))
 
   unpaused : (rs : List TraceRecord) (f : Figures) → afterEach rules (behindPause rs) (afterPause rules (frontPause rs) f) ≡ afterEach rules rs f
   unfolding afterEach

@@ -12,7 +12,7 @@ use Rattle.theory.proofs.Figures.{above-head, above-tail, above-trans}
 use Rattle.driving.specs.declared.Figures.{Figures}
 use Rattle.driving.specs.declared.Rules.{Rules}
 use Rattle.driving.specs.Accepted.{SoundRules, SoundFigures}
-use Rattle.driving.specs.Hours.{wheelFigures, wheelLimits, highestLimits, drivenOn, hasSplit, afterBreak, afterRest, afterFirst, afterSecond}
+use Rattle.driving.specs.Hours.{wheelFigures, wheelLimits, highestLimits, drivenOn, hasSplit, afterBreak, afterRest, afterFirst, afterSecond, afterWeekly}
 use Rattle.driving.proofs.Hours.{figures-within, limits-within}
 use Rattle.replay.specs.declared.TraceRecord.{TraceRecord}
 use Rattle.replay.specs.declared.Underway.{Underway}
@@ -34,17 +34,45 @@ seconds-high r even =
 -- a pause leaves sound figures sound
 pub paused-sound : (f : Figures) (rules : Rules) (seconds : ℕ) → SoundFigures f rules → SoundFigures (afterPause rules seconds f) rules
 paused-sound f rules seconds sound =
-    by (leb (rules .«rest_time» .0) seconds) (leb (rules .«break_time» .0) seconds) (hasSplit rules)
+    by (leb (rules .«weekly_rest» .0) seconds) (leb (rules .«rest_time» .0) seconds) (leb (rules .«break_time» .0) seconds) (hasSplit rules)
     (f .marked && leb (rules .«second_part» .0) seconds) (leb (rules .«first_part» .0) seconds)
   where
-    by : (rests breaks split ends begins : Bool) →
-        SoundFigures (pickFigures rests (afterRest f) (pickFigures breaks (afterBreak f) (pickFigures split (pickFigures ends (afterSecond f) (pickFigures begins (afterFirst f) f)) f))) rules
-    by true breaks split ends begins = record { spell-high = omega arith; figures-rise = omega arith; shift-high = omega arith }
-    by false true split ends begins = record { spell-high = omega arith; figures-rise = omega arith; shift-high = sound .shift-high }
-    by false false true true begins = record { spell-high = omega arith; figures-rise = omega arith; shift-high = sound .shift-high }
-    by false false true false true = record { spell-high = sound .spell-high; figures-rise = sound .figures-rise; shift-high = sound .shift-high }
-    by false false true false false = sound
-    by false false false ends begins = sound
+    -- a cleared figure is at most any other, and what is not cleared stays as it was
+    spell-cleared : SoundFigures (afterBreak f) rules
+    spell-cleared =
+        record {
+          spell-high = omega arith;
+          figures-rise = omega arith;
+          shift-high = sound .shift-high;
+          week-low = sound .week-low;
+          week-high = sound .week-high;
+        }
+
+    both-cleared : SoundFigures (afterRest f) rules
+    both-cleared = record { spell-high = omega arith; figures-rise = omega arith; shift-high = omega arith; week-low = omega arith; week-high = sound .week-high }
+
+    all-cleared : SoundFigures (afterWeekly f) rules
+    all-cleared = record { spell-high = omega arith; figures-rise = omega arith; shift-high = omega arith; week-low = omega arith; week-high = omega arith }
+
+    marked-too : SoundFigures (afterFirst f) rules
+    marked-too =
+        record {
+          spell-high = sound .spell-high;
+          figures-rise = sound .figures-rise;
+          shift-high = sound .shift-high;
+          week-low = sound .week-low;
+          week-high = sound .week-high;
+        }
+
+    by : (weekly rests breaks split ends begins : Bool) →
+        SoundFigures (pickFigures weekly (afterWeekly f) (pickFigures rests (afterRest f) (pickFigures breaks (afterBreak f) (pickFigures split (pickFigures ends (afterSecond f) (pickFigures begins (afterFirst f) f)) f)))) rules
+    by true rests breaks split ends begins = all-cleared
+    by false true breaks split ends begins = both-cleared
+    by false false true split ends begins = spell-cleared
+    by false false false true true begins = spell-cleared
+    by false false false true false true = marked-too
+    by false false false true false false = sound
+    by false false false false ends begins = sound
 
 driven-sound : (f : Figures) (rules : Rules) (seconds : ℕ) → SoundFigures f rules → T (noneAbove (wheelFigures (drivenOn seconds f)) (wheelLimits rules)) → SoundFigures (drivenOn seconds f) rules
 driven-sound f rules seconds sound within =
@@ -52,6 +80,8 @@ driven-sound f rules seconds sound within =
       spell-high = above-head _ _ _ _ within;
       figures-rise = omega (arith, sound);
       shift-high = above-head _ _ _ _ (above-tail _ _ _ _ within);
+      week-low = omega (arith, sound);
+      week-high = above-head _ _ _ _ (above-tail _ _ _ _ (above-tail _ _ _ _ within));
     }
 
 pub lengthened-high : (p s : ℕ) → lengthened p s ≤ mostSeconds

@@ -1,4 +1,4 @@
--- Replaying a trace: the driver's figures, brought up to date by each activity. Document 02, P3 and P5. Assumes nothing.
+-- Replaying a trace: the driver's figures, brought up to date by each activity. Document 02, P3, P5 and P7. Assumes nothing.
 use mathlib.Core.Path.{_≡_}
 use mathlib.Core.Bool.{Bool, true, false, not, _&&_, _||_}
 use mathlib.Core.List.{List, [], _∷_}
@@ -13,7 +13,7 @@ use Rattle.replies.specs.First.{Test, _at_, firstOf, placed, lowest}
 use Rattle.replies.specs.Told.{succeeded, toldReplaying}
 use Rattle.driving.specs.declared.Figures.{Figures}
 use Rattle.driving.specs.declared.Rules.{Rules}
-use Rattle.driving.specs.Hours.{wheelFigures, wheelLimits, drivenOn, hasSplit, afterBreak, afterRest, afterFirst, afterSecond}
+use Rattle.driving.specs.Hours.{wheelFigures, wheelLimits, drivenOn, hasSplit, afterBreak, afterRest, afterFirst, afterSecond, afterWeekly}
 use Rattle.driving.specs.Order.{badRules, badFigures}
 use Rattle.replay.specs.declared.TraceRecord.{TraceRecord}
 use Rattle.replay.specs.Trace.{pause, isDriving, isPause, traceRecordBytes, traceRecordAt, recordCount, firstRecords, recordsOf, joined}
@@ -31,13 +31,15 @@ afterShortPause rules seconds f =
     (pickFigures (leb (rules .«first_part» .0) seconds) (afterFirst f) f))
     f
 
--- a pause at least as long as the break clears spell; one as long as the rest clears shift too; both clear the mark
+-- a pause at least as long as the break clears spell; one as long as the rest clears shift too; both clear the mark; one as long as the
+-- weekly rest clears everything
 abbrev pub afterPause : Rules → ℕ → Figures → Figures
 afterPause rules seconds f =
-    pickFigures (leb (rules .«rest_time» .0) seconds) (afterRest f)
-    (pickFigures (leb (rules .«break_time» .0) seconds) (afterBreak f) (afterShortPause rules seconds f))
+    pickFigures (leb (rules .«weekly_rest» .0) seconds) (afterWeekly f)
+    (pickFigures (leb (rules .«rest_time» .0) seconds) (afterRest f)
+    (pickFigures (leb (rules .«break_time» .0) seconds) (afterBreak f) (afterShortPause rules seconds f)))
 
--- driving adds to spell and shift, and other work clears nothing
+-- driving adds to spell, shift and week, and other work clears nothing
 abbrev pub afterActivity : Rules → TraceRecord → Figures → Figures
 afterActivity rules r f =
     pickFigures (isDriving r) (drivenOn (r .seconds) f) (pickFigures (isPause r) (afterPause rules (r .seconds) f) f)
@@ -87,7 +89,7 @@ oddRecord trace rules f = placedWhere (λ k. isOdd (traceRecordAt trace k)) (fir
 abbrev pub pastLimit : List ℕ → Rules → Figures → Option ℕ
 pastLimit trace rules f = placedWhere (λ k. not (isOdd (traceRecordAt trace k))) (firstStopped trace rules f)
 
--- the rules are checked as words 6 to 11 of an order and the figures as words 4 and 5, then the trace; the mark starts as lent
+-- the rules are checked as words 6 to 13 of an order and the figures as words 4, 5 and 14, then the trace; the mark starts as lent
 abbrev pub replayTests : List ℕ → Rules → Figures → List Test
 replayTests trace rules f =
     (10 at badRules rules)

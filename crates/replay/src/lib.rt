@@ -99,6 +99,9 @@ fn after_short_pause(figures: Figures, rules: Rules, seconds: u32) -> Figures
 fn after_pause(figures: Figures, rules: Rules, seconds: u32) -> Figures
     ensures { λ r. ⌜ r ≡ afterPause rules seconds figures ⌝ }
 {
+    if rules.weekly_rest.0 <= seconds {
+        return driving::cleared(figures, Rules::WEEKLY_REST);
+    }
     if rules.rest_time.0 <= seconds {
         return driving::cleared(figures, Rules::REST);
     }
@@ -108,7 +111,7 @@ fn after_pause(figures: Figures, rules: Rules, seconds: u32) -> Figures
     after_short_pause(figures, rules, seconds)
 }
 
-// A pause that goes on. Nothing asks for a longer one than the longest break or rest, so the sum stops there and never wraps.
+// A pause that goes on. Nothing asks for a longer one than the longest weekly rest, so the sum stops there and never wraps.
 fn lengthened(pause: u32, seconds: u32) -> u32
     requires { ⌜ (pause ≤ 1000000) × (seconds ≤ 1000000) ⌝ }
     ensures { λ r. ⌜ r ≡ lengthened pause seconds ⌝ }
@@ -147,7 +150,10 @@ fn within_limits(figures: Figures, rules: Rules) -> bool
     if rules.spell_limit.0 < figures.spell.0 {
         return false;
     }
-    figures.shift.0 <= rules.shift_limit.0
+    if rules.shift_limit.0 < figures.shift.0 {
+        return false;
+    }
+    figures.week.0 <= rules.week_limit.0
 }
 
 // Record k: 22 before 23.

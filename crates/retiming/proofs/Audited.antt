@@ -79,7 +79,8 @@ met order sheet (reached s rows) all = record { s = s; rows = rows; is = refl }
 -- the figures that retiming writes into the header are true
 own-figures : (given : Heading) (s : State) → falseFigures (retimedHeading given s) s ≡ false
 unfolding falseFigures
-own-figures given s = rw (eq-eqb (s .clock .0) (s .clock .0) refl, eq-eqb (s .figures .spell .0) (s .figures .spell .0) refl, eq-eqb (s .figures .shift .0) (s .figures .shift .0) refl)
+own-figures given s =
+    rw (eq-eqb (s .clock .0) (s .clock .0) refl, eq-eqb (s .figures .spell .0) (s .figures .spell .0) refl, eq-eqb (s .figures .shift .0) (s .figures .shift .0) refl, eq-eqb (s .figures .week .0) (s .figures .week .0) refl)
 
 -- the refusal that a walk meets numbers from 1, and so do the refusals of retiming and of audit
 move-numbered : (clocks : Bool) (map : List ℕ) (order : Order) (sheet : List ℕ) → ltb 0 (moveTest (timing clocks map order sheet) .number) ≡ true

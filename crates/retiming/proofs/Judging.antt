@@ -67,11 +67,11 @@ module _ (order : Order) (sheet : List ℕ) (success : Reply) where
       none-fits (sheetTests order sheet (reached t rows)) ((18 at falseHeader (headingOf sheet) (reached t rows)) ∷ []) success passed
       ∙ passed-over (18 at falseHeader (headingOf sheet) (reached t rows)) [] success (rw (← ended, e))
 
--- with arrival and spell true the shift decides
-pub figures-by-shift : (heading : Heading) (s : State) → heading .arrival .0 ≡ s .clock .0 → heading .spell .0 ≡ s .figures .spell .0 →
-    not (eqb (heading .shift .0) (s .figures .shift .0)) ≡ falseFigures heading s
+-- with arrival, spell and shift true the week decides
+pub figures-by-week : (heading : Heading) (s : State) → heading .arrival .0 ≡ s .clock .0 → heading .spell .0 ≡ s .figures .spell .0 →
+    heading .shift .0 ≡ s .figures .shift .0 → not (eqb (heading .week .0) (s .figures .week .0)) ≡ falseFigures heading s
 unfolding falseFigures
-figures-by-shift heading s arrival spell = rw (eq-eqb _ _ arrival, eq-eqb _ _ spell)
+figures-by-week heading s arrival spell shift = rw (eq-eqb _ _ arrival, eq-eqb _ _ spell, eq-eqb _ _ shift)
 
 -- audit's reply once a run is opened
 module _ (map : List ℕ) (order : Order) (sheet : List ℕ) where

@@ -62,11 +62,12 @@ pub record Retimed (map order sheet before after : List ℕ) (answer : Timing) :
   pub reply : toldTiming answer ≡ retimingReply map order sheet before
   pub bytes : after ≡ retimedSheet map order sheet before
 
--- 18 false figure in the header: arrival, spell or shift; M + 1
+-- 18 false figure in the header: arrival, spell, shift or week; M + 1
 unfoldable pub falseFigures : Heading → State → Bool
 falseFigures heading s =
     not (eqb (heading .arrival .0) (s .clock .0))
-    || (not (eqb (heading .spell .0) (s .figures .spell .0)) || not (eqb (heading .shift .0) (s .figures .shift .0)))
+    || (not (eqb (heading .spell .0) (s .figures .spell .0))
+    || (not (eqb (heading .shift .0) (s .figures .shift .0)) || not (eqb (heading .week .0) (s .figures .week .0))))
 
 abbrev pub falseHeader : Heading → Walk → Option ℕ
 falseHeader heading (refused number move) = none

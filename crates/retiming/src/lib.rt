@@ -112,7 +112,10 @@ fn header_is_false(heading: Heading, state: State) -> bool
     if heading.spell.0 != state.figures.spell.0 {
         return true;
     }
-    heading.shift.0 != state.figures.shift.0
+    if heading.shift.0 != state.figures.shift.0 {
+        return true;
+    }
+    heading.week.0 != state.figures.week.0
 }
 
 fn audit_run(map: &[u8], run: Run, sheet: &[u8]) -> Timing

@@ -52,17 +52,18 @@ put-row s row a e whole fits =
     (put-split s a (row .kind) (omega arith), put-next s one a (a + 4) (a + 8) (row .number) (rw length-word) (omega arith) (omega arith))
     (put-next s (one ++ wordBytes (row .number)) a (a + 8) e (row .clock .0) (simp (length-append, length-word)) (omega arith) fits)
 
--- a header's five
-pub put-heading : (s : List ℕ) (h : Heading) → headerBytes ≤ length s → putAt (putAt (putAt (putAt (putAt s 0 (h .moves)) 4 (h .arrival .0)) 8 (h .spell .0)) 12 (h .shift .0)) 16 (h .labels) ≡ withHeading s h
+-- a header's six
+pub put-heading : (s : List ℕ) (h : Heading) → headerBytes ≤ length s → putAt (putAt (putAt (putAt (putAt (putAt s 0 (h .moves)) 4 (h .arrival .0)) 8 (h .spell .0)) 12 (h .shift .0)) 16 (h .week .0)) 20 (h .labels) ≡ withHeading s h
 unfolding headingBytes
 put-heading s h fits =
     let one : List ℕ = wordBytes (h .moves) in
     let two : List ℕ = one ++ wordBytes (h .arrival .0) in
     let three : List ℕ = two ++ wordBytes (h .spell .0) in
     let four : List ℕ = three ++ wordBytes (h .shift .0) in
+    let five : List ℕ = four ++ wordBytes (h .week .0) in
     rw
-    (put-split s 0 (h .moves) (omega arith), put-next s one 0 4 8 (h .arrival .0) (rw length-word) refl (omega arith), put-next s two 0 8 12 (h .spell .0) (simp (length-append, length-word)) refl (omega arith), put-next s three 0 12 16 (h .shift .0) (simp (length-append, length-word)) refl (omega arith))
-    (put-next s four 0 16 headerBytes (h .labels) (simp (length-append, length-word)) refl fits)
+    (put-split s 0 (h .moves) (omega arith), put-next s one 0 4 8 (h .arrival .0) (rw length-word) refl (omega arith), put-next s two 0 8 12 (h .spell .0) (simp (length-append, length-word)) refl (omega arith), put-next s three 0 12 16 (h .shift .0) (simp (length-append, length-word)) refl (omega arith), put-next s four 0 16 20 (h .week .0) (simp (length-append, length-word)) refl (omega arith))
+    (put-next s five 0 20 headerBytes (h .labels) (simp (length-append, length-word)) refl fits)
 
 -- a record written into the part behind the header is the same record of the whole sheet
 pub behind-header : (s : List ℕ) (k : ℕ) (row : Row) → take headerBytes s ++ withRowBehind (drop headerBytes s) k row ≡ withRow s k row

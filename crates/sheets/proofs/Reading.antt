@@ -33,8 +33,17 @@ heading-here h t =
     let w2 : wordAt (headingBytes h ++ t) 4 ≡ h .arrival .0 = digits (h .arrival .0) in
     let w3 : wordAt (headingBytes h ++ t) 8 ≡ h .spell .0 = digits (h .spell .0) in
     let w4 : wordAt (headingBytes h ++ t) 12 ≡ h .shift .0 = digits (h .shift .0) in
-    let w5 : wordAt (headingBytes h ++ t) 16 ≡ h .labels = digits (h .labels) in
-    λ i. record { moves = w1 i; arrival = record { 0 = w2 i }; spell = record { 0 = w3 i }; shift = record { 0 = w4 i }; labels = w5 i }
+    let w5 : wordAt (headingBytes h ++ t) 16 ≡ h .week .0 = digits (h .week .0) in
+    let w6 : wordAt (headingBytes h ++ t) 20 ≡ h .labels = digits (h .labels) in
+    λ i.
+    record {
+      moves = w1 i;
+      arrival = record { 0 = w2 i };
+      spell = record { 0 = w3 i };
+      shift = record { 0 = w4 i };
+      week = record { 0 = w5 i };
+      labels = w6 i;
+    }
 
 -- the three words from `at` on
 abbrev rowFrom : List ℕ → ℕ → Row

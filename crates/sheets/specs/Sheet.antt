@@ -1,5 +1,5 @@
 -- The plan sheet: its format, what is read from it and what is written to it, and refusals 14 and 15.
--- Document 01, "Plan sheet" and "Replies". Assumes nothing.
+-- Document 01, "Plan sheet" and "Replies", and document 02, P7. Assumes nothing.
 use mathlib.Core.Bool.{Bool, not, _||_}
 use mathlib.Core.List.{List, [], _∷_, _++_}
 use mathlib.Core.Option.{Option}
@@ -18,7 +18,7 @@ wordBytes w = w % 256 ∷ w / 256 % 256 ∷ w / 65536 % 256 ∷ w / 16777216 ∷
 
 -- the bytes of the header, of a record, and of a sheet of m moves
 abbrev pub headerBytes : ℕ
-headerBytes = 20
+headerBytes = 24
 
 abbrev pub recordBytes : ℕ
 recordBytes = 12
@@ -26,15 +26,27 @@ recordBytes = 12
 abbrev pub sheetNeeded : ℕ → ℕ
 sheetNeeded m = headerBytes + recordBytes * m
 
--- the header, five words: moves M, arrival, spell, shift, N
+-- the header, six words: moves M, arrival, spell, shift, week, N
 unfoldable pub headingBytes : Heading → List ℕ
 headingBytes h =
-    wordBytes (h .moves) ++ wordBytes (h .arrival .0) ++ wordBytes (h .spell .0) ++ wordBytes (h .shift .0) ++ wordBytes (h .labels)
+    wordBytes (h .moves)
+    ++ wordBytes (h .arrival .0)
+    ++ wordBytes (h .spell .0)
+    ++ wordBytes (h .shift .0)
+    ++ wordBytes (h .week .0)
+    ++ wordBytes (h .labels)
 
 -- of so many moves to a state, with N
 abbrev pub headingFor : ℕ → State → ℕ → Heading
 headingFor moves s labels =
-    record { moves = moves; arrival = s .clock; spell = s .figures .spell; shift = s .figures .shift; labels = labels }
+    record {
+      moves = moves;
+      arrival = s .clock;
+      spell = s .figures .spell;
+      shift = s .figures .shift;
+      week = s .figures .week;
+      labels = labels;
+    }
 
 abbrev pub headingOf : List ℕ → Heading
 headingOf sheet =
@@ -43,7 +55,8 @@ headingOf sheet =
       arrival = record { 0 = wordAt sheet 4 };
       spell = record { 0 = wordAt sheet 8 };
       shift = record { 0 = wordAt sheet 12 };
-      labels = wordAt sheet 16;
+      week = record { 0 = wordAt sheet 16 };
+      labels = wordAt sheet 20;
     }
 
 -- then M records of three words: kind, number, clock after
@@ -71,7 +84,7 @@ rowsOf sheet k (suc n) = rowAt sheet k ∷ rowsOf sheet (k + 1) n
 abbrev pub mostMoves : ℕ
 mostMoves = 999999
 
--- the sheet afterwards: bytes after 20 + 12M stay
+-- the sheet afterwards: bytes after 24 + 12M stay
 unfoldable pub sheetAfter : Heading → List Row → List ℕ → List ℕ
 sheetAfter h rows before = headingBytes h ++ rowsBytes rows ++ drop (sheetNeeded (length rows)) before
 
@@ -87,11 +100,11 @@ withRowBehind part k row = take (recordBytes * (k - 1)) part ++ rowBytes row ++ 
 abbrev pub withRow : List ℕ → ℕ → Row → List ℕ
 withRow sheet k row = take (sheetNeeded (k - 1)) sheet ++ rowBytes row ++ drop (sheetNeeded k) sheet
 
--- 14 short sheet: under 20 + 12M; bytes needed
+-- 14 short sheet: under 24 + 12M; bytes needed
 abbrev pub shortSheet : ℕ → ℕ → Option ℕ
 shortSheet moves length = placed (ltb length (sheetNeeded moves)) (sheetNeeded moves)
 
--- 15 torn sheet: under 20, M above 999,999, or not 20 + 12M; length
+-- 15 torn sheet: under 24, M above 999,999, or not 24 + 12M; length
 unfoldable pub torn : List ℕ → Bool
 torn sheet =
     ltb (length sheet) headerBytes

@@ -1,4 +1,4 @@
-// The plan sheet: five words of header, then records of three words. A move's record is written
+// The plan sheet: six words of header, then records of three words. A move's record is written
 // into the part of the sheet behind its header.
 ghost use mathlib.Core.Path.{_≡_};
 ghost use Prim.Native.Nat.{_*_, _≤_};
@@ -10,17 +10,18 @@ use states::State;
 use words::put_word;
 use words::word;
 
-// The header's five words.
+// The header's six words.
 pub struct Heading {
     pub moves: u32,
     pub arrival: Clock,
     pub spell: Wheel,
     pub shift: Wheel,
+    pub week: Wheel,
     pub labels: u32,
 }
 
 impl Heading {
-    pub const BYTES: usize = 20;
+    pub const BYTES: usize = 24;
 
     pub const MOST_MOVES: u32 = 999999;
 }
@@ -50,11 +51,13 @@ pub fn heading_for(moves: u32, state: State, labels: u32) -> Heading
     let arrival = state.clock;
     let spell = state.figures.spell;
     let shift = state.figures.shift;
+    let week = state.figures.week;
     Heading {
         moves,
         arrival,
         spell,
         shift,
+        week,
         labels,
     }
 }
@@ -68,7 +71,8 @@ pub fn read_heading(sheet: &[u8]) -> Heading
         arrival: Clock(word(sheet, 4)),
         spell: Wheel(word(sheet, 8)),
         shift: Wheel(word(sheet, 12)),
-        labels: word(sheet, 16),
+        week: Wheel(word(sheet, 16)),
+        labels: word(sheet, 20),
     }
 }
 
@@ -107,7 +111,8 @@ pub fn put_heading(sheet: &mut [u8], heading: Heading)
     put_word(sheet, 4, heading.arrival.0);
     put_word(sheet, 8, heading.spell.0);
     put_word(sheet, 12, heading.shift.0);
-    put_word(sheet, 16, heading.labels);
+    put_word(sheet, 16, heading.week.0);
+    put_word(sheet, 20, heading.labels);
 }
 
 // Writes record k, counted from 1, into the part of a sheet behind its header.

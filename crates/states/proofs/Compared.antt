@@ -21,16 +21,22 @@ pub state-path : (b a : State) → rankFigures b ≡ rankFigures a → b ≡ a
 state-path b a e =
     λ i.
     record {
-      junction = at 4 i;
+      junction = at 5 i;
       clock = record { 0 = at 0 i };
-      figures = record { spell = record { 0 = at 1 i }; shift = record { 0 = at 2 i }; marked = same-mark i };
+      figures =
+          record {
+            spell = record { 0 = at 1 i };
+            shift = record { 0 = at 2 i };
+            week = record { 0 = at 3 i };
+            marked = same-mark i;
+          };
     }
   where
     at : (k : ℕ) → getD (rankFigures b) k 0 ≡ getD (rankFigures a) k 0
     at k = ap (λ (l : List ℕ). getD l k 0) e
 
     same-mark : b .figures .marked ≡ a .figures .marked
-    same-mark = sym (mark-told (b .figures .marked)) ∙ ap (λ (x : ℕ). eqb x 0) (at 3) ∙ mark-told (a .figures .marked)
+    same-mark = sym (mark-told (b .figures .marked)) ∙ ap (λ (x : ℕ). eqb x 0) (at 4) ∙ mark-told (a .figures .marked)
 
 -- rank is a total order
 pub rank-order : Order ranksNoHigher

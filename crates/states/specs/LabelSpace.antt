@@ -1,9 +1,9 @@
--- The label space: how many labels a lent run of words holds. Document 01, "Labels", and document 02, P5. Assumes nothing.
+-- The label space: how many labels a lent run of words holds. Document 01, "Labels", and document 02, P5 and P7. Assumes nothing.
 use Prim.Native.Nat.{ℕ, _/_, min}
 
--- nine words make one label
+-- ten words make one label
 abbrev pub labelWords : ℕ
-labelWords = 9
+labelWords = 10
 
 abbrev pub mostLabels : ℕ
 mostLabels = 1000000

@@ -22,12 +22,13 @@ impl State {
         figures: Figures {
             spell: Wheel(0),
             shift: Wheel(0),
+            week: Wheel(0),
             marked: false,
         },
     };
 
     // The words that a label takes: its state, and how the search goes on from it.
-    pub const LABEL_WORDS: usize = 9;
+    pub const LABEL_WORDS: usize = 10;
 
     pub const MOST_LABELS: usize = 1000000;
 }
@@ -64,7 +65,10 @@ pub fn is_legal(order: Order, state: State) -> bool
     if order.rules.spell_limit.0 < state.figures.spell.0 {
         return false;
     }
-    state.figures.shift.0 <= order.rules.shift_limit.0
+    if order.rules.shift_limit.0 < state.figures.shift.0 {
+        return false;
+    }
+    state.figures.week.0 <= order.rules.week_limit.0
 }
 
 // Whether b is at a's junction, and no worse.
@@ -81,6 +85,9 @@ pub fn covers(b: State, a: State) -> bool
         return false;
     }
     if a.figures.shift.0 < b.figures.shift.0 {
+        return false;
+    }
+    if a.figures.week.0 < b.figures.week.0 {
         return false;
     }
     let b_mark = driving::unmarked(b.figures);
@@ -101,6 +108,9 @@ pub fn ranks_no_higher(b: State, a: State) -> bool
     if b.figures.shift.0 != a.figures.shift.0 {
         return b.figures.shift.0 < a.figures.shift.0;
     }
+    if b.figures.week.0 != a.figures.week.0 {
+        return b.figures.week.0 < a.figures.week.0;
+    }
     let b_mark = driving::unmarked(b.figures);
     let a_mark = driving::unmarked(a.figures);
     if b_mark != a_mark {
@@ -119,6 +129,9 @@ pub fn same_state(b: State, a: State) -> bool
         return false;
     }
     if b.figures.shift.0 != a.figures.shift.0 {
+        return false;
+    }
+    if b.figures.week.0 != a.figures.week.0 {
         return false;
     }
     let b_mark = driving::unmarked(b.figures);

@@ -5,7 +5,7 @@
 // number is the junction asked for a name, the junction count for an order, the length of the lent
 // sheet for retiming, the road for striking and for a preview, and for planning what every label word
 // holds beforehand. The sheet of planning and of a preview is the one that is lent. For replaying, the
-// order's place has an order's words 4 to 11 alone, the number is 0 without the mark and 1 with it, and
+// order's place has an order's words 4 to 14 alone, the number is 0 without the mark and 1 with it, and
 // the sheet's place has the trace.
 ghost use Prim.Native.Nat.{_≤_, _<_};
 ghost use lib.ListN.{length};
@@ -18,13 +18,13 @@ use seconds::Clock;
 use seconds::Wheel;
 
 // Room for all cases. Cases that fill it may have lost their end, and are refused.
-const CASE_BYTES: usize = 262144;
+const CASE_BYTES: usize = 524288;
 
 // The five words of a case.
 const HEADER_BYTES: usize = 20;
 
-// The driver's figures and the rules: an order's words 4 to 11.
-const HOURS_BYTES: usize = 32;
+// The driver's figures and the rules: an order's words 4 to 14.
+const HOURS_BYTES: usize = 44;
 
 // The refusals of the search. The others are given before it, and leave the label space as it was.
 const FIRST_OF_SEARCH: u32 = 12;
@@ -171,6 +171,7 @@ fn run_replay(marked: bool, hours: &[u8], trace: &[u8]) {
     let figures = Figures {
         spell: Wheel(words::word(hours, 0)),
         shift: Wheel(words::word(hours, 4)),
+        week: Wheel(words::word(hours, 40)),
         marked,
     };
     let rules = Rules {
@@ -180,6 +181,8 @@ fn run_replay(marked: bool, hours: &[u8], trace: &[u8]) {
         rest_time: Clock(words::word(hours, 20)),
         first_part: Clock(words::word(hours, 24)),
         second_part: Clock(words::word(hours, 28)),
+        week_limit: Wheel(words::word(hours, 32)),
+        weekly_rest: Clock(words::word(hours, 36)),
     };
     let outcome = replay::replay_from(trace, rules, figures);
     let answer = outcome.answer;
@@ -189,6 +192,8 @@ fn run_replay(marked: bool, hours: &[u8], trace: &[u8]) {
     print_number(after.spell.0 as u64);
     print(b" ");
     print_number(after.shift.0 as u64);
+    print(b" ");
+    print_number(after.week.0 as u64);
     if after.marked {
         print(b" 1");
     } else {

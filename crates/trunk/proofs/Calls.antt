@@ -52,11 +52,11 @@ pub name-short-part : {part : List ℕ} → length part < 2 → (map : List ℕ)
 name-short-part short map junction reply =
     record { short = λ _. (refl, refl); short-part = λ _. (refl, refl); told = λ _ room. absurd (omega arith) }
 
-pub replay-short-rules : {rules : List ℕ} → length rules < 6 → (trace figures reply : List ℕ) → ReplayCall trace rules figures figures reply reply
+pub replay-short-rules : {rules : List ℕ} → length rules < 8 → (trace figures reply : List ℕ) → ReplayCall trace rules figures figures reply reply
 replay-short-rules short trace figures reply =
     record { short = λ _. (refl, refl); short-rules = λ _. (refl, refl); short-figures = λ _. (refl, refl); told = λ _ room _. absurd (omega arith) }
 
-pub replay-short-figures : {figures : List ℕ} → length figures < 3 → (trace rules reply : List ℕ) → ReplayCall trace rules figures figures reply reply
+pub replay-short-figures : {figures : List ℕ} → length figures < 4 → (trace rules reply : List ℕ) → ReplayCall trace rules figures figures reply reply
 replay-short-figures short trace rules reply =
     record { short = λ _. (refl, refl); short-rules = λ _. (refl, refl); short-figures = λ _. (refl, refl); told = λ _ _ room. absurd (omega arith) }
 
@@ -88,7 +88,7 @@ module _ {reply reply′ : List ℕ} {told : Reply} (room : 3 ≤ length reply) 
   editing-told answer is owed =
       record { short = λ short. absurd (omega arith); told = λ _. (answer, owed, written ∙ ap (replyPut reply) is) }
 
-  pub replay-told : {trace rules figures figures′ : List ℕ} {answer : Replaying} {after : Figures} → 6 ≤ length rules → 3 ≤ length figures → told ≡ toldReplaying answer
+  pub replay-told : {trace rules figures figures′ : List ℕ} {answer : Replaying} {after : Figures} → 8 ≤ length rules → 4 ≤ length figures → told ≡ toldReplaying answer
       → Replayed trace (rulesIn rules) (figuresIn figures) after answer → figures′ ≡ figuresLeft (toldReplaying answer) figures after → ReplayCall trace rules figures figures′ reply reply′
   replay-told {answer = answer} {after = after} enough-rules enough-figures is replayed put =
       record {

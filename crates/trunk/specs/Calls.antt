@@ -88,11 +88,11 @@ StrikeCall map road map′ reply reply′ = EditingCall (Striking map road map�
 abbrev pub figuresLeft : Reply → List ℕ → Figures → List ℕ
 figuresLeft reply figures after = pick (eqb (reply .number) 0) (figuresPut figures after) figures
 
--- lent rules of fewer than six words, or figures of fewer than three, are as a reply with no room for three
+-- lent rules of fewer than eight words, or figures of fewer than four, are as a reply with no room for three
 pub record ReplayCall (trace rules figures figures′ reply reply′ : List ℕ) : Type 0 where
   pub short : length reply < 3 → (figures′ ≡ figures) × (reply′ ≡ reply)
-  pub short-rules : length rules < 6 → (figures′ ≡ figures) × (reply′ ≡ reply)
-  pub short-figures : length figures < 3 → (figures′ ≡ figures) × (reply′ ≡ reply)
-  pub told : 3 ≤ length reply → 6 ≤ length rules → 3 ≤ length figures
+  pub short-rules : length rules < 8 → (figures′ ≡ figures) × (reply′ ≡ reply)
+  pub short-figures : length figures < 4 → (figures′ ≡ figures) × (reply′ ≡ reply)
+  pub told : 3 ≤ length reply → 8 ≤ length rules → 4 ≤ length figures
       → (answer : Replaying) × (after : Figures) × Replayed trace (rulesIn rules) (figuresIn figures) after answer
       × (figures′ ≡ figuresLeft (toldReplaying answer) figures after) × (reply′ ≡ replyPut reply (toldReplaying answer))

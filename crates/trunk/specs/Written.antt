@@ -17,17 +17,19 @@ replyPut lent reply = set (set (set lent 0 (reply .number)) 1 (reply .place)) 2 
 abbrev pub partPut : List ℕ → ℕ → ℕ → List ℕ
 partPut lent from length = set (set lent 0 from) 1 length
 
--- rules, as words 6 to 11 of an order; the words after them are not read
+-- rules, as words 6 to 13 of an order; the words after them are not read
 abbrev pub rulesIn : List ℕ → Rules
-rulesIn words = rulesOf (getD words 0 0) (getD words 1 0) (getD words 2 0) (getD words 3 0) (getD words 4 0) (getD words 5 0)
+rulesIn words =
+    rulesOf (getD words 0 0) (getD words 1 0) (getD words 2 0) (getD words 3 0) (getD words 4 0) (getD words 5 0) (getD words 6 0) (getD words 7 0)
 
--- figures: spell, shift, and the mark, which any number but 0 stands for; the words after them are not read
+-- figures: spell, shift, week, and the mark, which any number but 0 stands for; the words after them are not read
 abbrev pub figuresIn : List ℕ → Figures
 figuresIn words =
     record {
       spell = record { 0 = getD words 0 0 };
       shift = record { 0 = getD words 1 0 };
-      marked = not (eqb (getD words 2 0) 0);
+      week = record { 0 = getD words 2 0 };
+      marked = not (eqb (getD words 3 0) 0);
     }
 
 abbrev pub markWord : Bool → ℕ
@@ -36,4 +38,4 @@ markWord false = 0
 
 -- the same written; the words after them stay
 abbrev pub figuresPut : List ℕ → Figures → List ℕ
-figuresPut words f = set (set (set words 0 (f .spell .0)) 1 (f .shift .0)) 2 (markWord (f .marked))
+figuresPut words f = set (set (set (set words 0 (f .spell .0)) 1 (f .shift .0)) 2 (f .week .0)) 3 (markWord (f .marked))

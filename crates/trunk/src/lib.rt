@@ -20,10 +20,10 @@ const REPLY_NUMBERS: usize = 3;
 
 const PART_NUMBERS: usize = 2;
 
-// What rules and figures take of lent runs: words 6 to 11 of an order; spell, shift and the mark.
-const RULE_WORDS: usize = 6;
+// What rules and figures take of lent runs: words 6 to 13 of an order; spell, shift, week and the mark.
+const RULE_WORDS: usize = 8;
 
-const FIGURE_WORDS: usize = 3;
+const FIGURE_WORDS: usize = 4;
 
 fn put_reply(lent: &mut [u64], reply: Reply)
     requires { ⌜ 3 ≤ length (now lent) ⌝ }
@@ -185,7 +185,7 @@ pub extern "C" fn trunk_strike(map: &mut [u8], road: u32, reply: &mut [u64])
 }
 
 fn read_rules(words: &[u32]) -> Rules
-    requires { ⌜ 6 ≤ length (now words) ⌝ }
+    requires { ⌜ 8 ≤ length (now words) ⌝ }
     ensures { λ r. ⌜ r ≡ rulesIn (now (words .entry)) ⌝ }
 {
     Rules {
@@ -195,17 +195,20 @@ fn read_rules(words: &[u32]) -> Rules
         rest_time: Clock(words[3]),
         first_part: Clock(words[4]),
         second_part: Clock(words[5]),
+        week_limit: Wheel(words[6]),
+        weekly_rest: Clock(words[7]),
     }
 }
 
 fn read_figures(words: &[u32]) -> Figures
-    requires { ⌜ 3 ≤ length (now words) ⌝ }
+    requires { ⌜ 4 ≤ length (now words) ⌝ }
     ensures { λ r. ⌜ r ≡ figuresIn (now (words .entry)) ⌝ }
 {
     Figures {
         spell: Wheel(words[0]),
         shift: Wheel(words[1]),
-        marked: words[2] != 0,
+        week: Wheel(words[2]),
+        marked: words[3] != 0,
     }
 }
 
@@ -216,18 +219,19 @@ fn mark_word(marked: bool) -> u32
 }
 
 fn put_figures(words: &mut [u32], figures: Figures)
-    requires { ⌜ 3 ≤ length (now words) ⌝ }
+    requires { ⌜ 4 ≤ length (now words) ⌝ }
     ensures { λ _. ⌜ now (words .exit) ≡ figuresPut (now (words .entry)) figures ⌝ }
 {
     let mark = mark_word(figures.marked);
     words[0] = figures.spell.0;
     words[1] = figures.shift.0;
-    words[2] = mark;
+    words[2] = figures.week.0;
+    words[3] = mark;
 }
 
 // A refused trace leaves every word of the lent figures, also a mark that is not spelled as the library would.
 fn leave_figures(words: &mut [u32], told: Reply, figures: Figures)
-    requires { ⌜ 3 ≤ length (now words) ⌝ }
+    requires { ⌜ 4 ≤ length (now words) ⌝ }
     ensures { λ _. ⌜ now (words .exit) ≡ figuresLeft told (now (words .entry)) figures ⌝ }
 {
     if told.number != 0 {

@@ -10,8 +10,9 @@ use Rattle.driving.proofs.check_figures.Tie as tie
 returns : tie.Need-returns
 unfolding badFigures
 returns c =
-    let a = c .before .before .before .args in
-    simp (c .ruled3 .ensures, c .before .ruled2 .ensures, c .before .before .ruled .ensures) (told-ruled 11 BadTrip (figureRules (a .figures) (a .rules)) (λ w. refl))
+    let three = c .before .before in
+    let a = three .before .before .before .args in
+    simp (c .ruled5 .ensures, c .before .ruled4 .ensures, three .ruled3 .ensures, three .before .ruled2 .ensures, three .before .before .ruled .ensures) (told-ruled 11 BadTrip (figureRules (a .figures) (a .rules)) (λ w. refl))
 
 pub check-figures-spec : {M : Type 1} → statement M
-check-figures-spec = tie.close (tie.spec (λ c κs. search needs) (λ c κs. search needs) (λ c κs. search needs) returns)
+check-figures-spec = tie.close (tie.spec (λ c κs. search needs) (λ c κs. search needs) (λ c κs. search needs) (λ c κs. search needs) (λ c κs. search needs) returns)

@@ -10,9 +10,14 @@ returns-2 : tie.Need-returns-2
 returns-2 c = rw (c .if2 .taken)
 
 returns-3 : tie.Need-returns-3
-returns-3 c =
-    let s = c .before .before .before .before in
-    sym (spell-cleared _ _ (s .pre .0) (s .pre .1) (c .before .if1 .left) (c .if2 .left))
+returns-3 c = rw (c .if3 .taken)
+
+returns-4 : tie.Need-returns-4
+returns-4 c =
+    let first = c .before in
+    let rest = first .before in
+    let s = rest .before .before .before .before in
+    sym (spell-cleared _ _ (s .pre .0) (s .pre .1) (rest .if1 .left) (first .if2 .left) (c .if3 .left))
 
 pub cleared-spec : {M : Type 1} → statement M
-cleared-spec = tie.close (tie.spec returns returns-2 returns-3)
+cleared-spec = tie.close (tie.spec returns returns-2 returns-3 returns-4)

@@ -6,6 +6,11 @@ use Rattle.labels.proofs.Lists.{lists-added}
 use Rattle.labels.proofs.add_label.Statement.{statement}
 use Rattle.labels.proofs.add_label.Tie as tie
 
+raise-requires-2 : tie.Need-raise-requires-2
+raise-requires-2 c κs =
+    let s = c .before .before .before .before .before .before .before .before .before .before .before .before .before .before .before .before .before in
+    omega (arith, s .pre .0 .1, s .pre .0 .0 .as-many-shifts)
+
 returns : tie.Need-returns
 returns c =
     let s = c .before .before .before .before .before .before .before .before .before .before .before .before .before .before .before .before .before .before .before .before in
@@ -36,7 +41,7 @@ add-label-spec =
     (λ c. search needs)
     (λ c κs. search needs)
     (λ c. search needs)
-    (λ c κs. search needs)
+    raise-requires-2
     (λ c. search needs)
     (λ c. search needs)
     (λ c. search needs)

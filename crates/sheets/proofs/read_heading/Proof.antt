@@ -1,4 +1,4 @@
--- The five words read are those of `headingOf`. Assumes nothing.
+-- The six words read are those of `headingOf`. Assumes nothing.
 use borrow.Author.Needs.{needs}
 use Rattle.sheets.proofs.read_heading.Statement.{statement}
 use Rattle.sheets.proofs.read_heading.Tie as tie
@@ -10,6 +10,7 @@ pub read-heading-spec : {M : Type 1} → statement M
 read-heading-spec =
     tie.close
     (tie.spec
+    (λ c κs. search needs)
     (λ c κs. search needs)
     (λ c κs. search needs)
     (λ c κs. search needs)

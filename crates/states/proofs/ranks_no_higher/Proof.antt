@@ -23,34 +23,54 @@ returns-3 c =
     let d = e .before .before .before in
     sym (rank-same _ _ _ _ (d .before .before .before .if1 .left) ∙ rank-same _ _ _ _ (d .if2 .left) ∙ rank-other _ _ _ _ (e .if3 .taken))
 
--- the marks, by their figures
 returns-4 : tie.Need-returns-4
 unfolding ranksNoHigher
 returns-4 c =
+    let f = c .before .before in
+    let e = f .before .before .before in
+    let d = e .before .before .before in
+    sym
+    (rank-same _ _ _ _ (d .before .before .before .if1 .left)
+    ∙ rank-same _ _ _ _ (d .if2 .left)
+    ∙ rank-same _ _ _ _ (e .if3 .left)
+    ∙ rank-other _ _ _ _ (f .if4 .taken))
+
+-- the marks, by their figures
+returns-5 : tie.Need-returns-5
+unfolding ranksNoHigher
+returns-5 c =
     let marks = c .before in
-    let f = marks .before .before in
+    let g = marks .before .before in
+    let f = g .before .before .before in
     let e = f .before .before .before in
     let d = e .before .before .before in
     let b-mark = marks .before .unmarked .ensures in
     let a-mark = marks .unmarked2 .ensures in
     ap₂ ltb b-mark a-mark
-    ∙ sym (rank-same _ _ _ _ (d .if1 .left) ∙ rank-same _ _ _ _ (e .if2 .left) ∙ rank-same _ _ _ _ (f .if3 .left) ∙ rank-other _ _ _ _ (λ same. c .if4 .taken (b-mark ∙ same ∙ sym a-mark)))
+    ∙ sym
+    (rank-same _ _ _ _ (d .if1 .left)
+    ∙ rank-same _ _ _ _ (e .if2 .left)
+    ∙ rank-same _ _ _ _ (f .if3 .left)
+    ∙ rank-same _ _ _ _ (g .if4 .left)
+    ∙ rank-other _ _ _ _ (λ same. c .if5 .taken (b-mark ∙ same ∙ sym a-mark)))
 
-returns-5 : tie.Need-returns-5
+returns-6 : tie.Need-returns-6
 unfolding ranksNoHigher
-returns-5 c =
-    let g = c .before .before in
-    let marks = g .before in
-    let f = marks .before .before in
+returns-6 c =
+    let h = c .before .before in
+    let marks = h .before in
+    let g = marks .before .before in
+    let f = g .before .before .before in
     let e = f .before .before .before in
     let d = e .before .before .before in
     sym
     (rank-same _ _ _ _ (d .if1 .left)
     ∙ rank-same _ _ _ _ (e .if2 .left)
     ∙ rank-same _ _ _ _ (f .if3 .left)
-    ∙ rank-same _ _ _ _ (sym (marks .before .unmarked .ensures) ∙ g .if4 .left ∙ marks .unmarked2 .ensures)
+    ∙ rank-same _ _ _ _ (g .if4 .left)
+    ∙ rank-same _ _ _ _ (sym (marks .before .unmarked .ensures) ∙ h .if5 .left ∙ marks .unmarked2 .ensures)
     ∙ rank-last _ _)
 
 pub ranks-no-higher-spec : {M : Type 1} → statement M
 ranks-no-higher-spec =
-    tie.close (tie.spec returns returns-2 returns-3 (λ c κs. search needs) (λ c κs. search needs) returns-4 returns-5)
+    tie.close (tie.spec returns returns-2 returns-3 returns-4 (λ c κs. search needs) (λ c κs. search needs) returns-5 returns-6)

@@ -7,6 +7,9 @@ use Rattle.trunk.proofs.put_figures.Tie as tie
 slice-write-words-2 : tie.Need-slice-write-words-2
 slice-write-words-2 c = simp length-set (omega (arith, c .before .before .pre))
 
+slice-write-words-3 : tie.Need-slice-write-words-3
+slice-write-words-3 c = simp length-set (omega (arith, c .before .before .pre))
+
 returns : tie.Need-returns
 returns c = rw (c .mark-word .ensures)
 
@@ -17,6 +20,7 @@ put-figures-spec =
     (λ c κs. search needs)
     (λ c. search needs)
     slice-write-words-2
+    slice-write-words-3
     (λ c. search needs)
     (λ c. search needs)
     returns)
