@@ -28,6 +28,7 @@ use Rattle.mapedit.specs.Name.{unknownName, nameReply}
 use Rattle.mapedit.specs.Chaining.{chained, chainingReply, afterChaining, ChainMaking}
 use Rattle.driving.specs.declared.Figures.{Figures}
 use Rattle.driving.specs.declared.Rules.{Rules}
+use Rattle.driving.specs.Accepted.{FiguresRise}
 use Rattle.driving.specs.Order.{orderOf, badFigures, orderTests}
 use Rattle.replay.specs.Trace.{recordCount, recordsOf}
 use Rattle.replay.specs.Replay.{upToDate, tornTrace, replayTests, Replayed}
@@ -40,7 +41,7 @@ use Rattle.sheets.specs.declared.Heading.{Heading}
 use Rattle.sheets.specs.Sheet.{headingOf, sheetNeeded}
 use Rattle.retiming.specs.Retiming.{movesOn, timing, retimingTests, auditTests, auditReply, Retimed}
 use Rattle.theory.specs.Lists.{memb}
-use Rattle.journeys.specs.Journeys.{Journey, totalSeconds}
+use Rattle.journeys.specs.Journeys.{Reached, Journey, totalSeconds}
 use Rattle.states.specs.States.{ranksNoHigher}
 use Rattle.journeys.specs.Labels.{labelCount}
 use Rattle.journeys.specs.Plan.{bytesNeeded}
@@ -48,7 +49,7 @@ use Rattle.journeys.specs.Planning.{beforeSearch, tripFrom, searchTests, planTe
 use Rattle.states.specs.LabelSpace.{labelsThatFit}
 use Rattle.journeys.specs.Compared.{EasierRun}
 use Rattle.retiming.proofs.Audited.{retiming-numbered, audit-numbered}
-use Rattle.journeys.proofs.Journeys.{leads-clock}
+use Rattle.journeys.proofs.Journeys.{leads-clock, reached-rise}
 use Rattle.journeys.proofs.Planning.{accepted-sound, sheet-refused, reply-any-fit, sheet-any-fit}
 use Rattle.planner.specs.Planned.{Planned}
 use Rattle.planner.specs.Preview.{closureTests, previewSheet, Previewed}
@@ -300,6 +301,10 @@ module _ {map order words words′ sheet sheet′ : List ℕ} {answer : Planning
     -- the label count of document 01: how many distinct reachable undominated states rank no higher than the answer's; with no journey, all of them
     pub label-count : (n : ℕ) → CountsLabels trip n ↔ (n ≡ labelCount trip)
     label-count = counts-labels trip (accepted-sound map order (accepted .mapped) (accepted .ordered))
+
+    -- spell ≤ shift ≤ week holds in every reachable state (document 02, P7)
+    pub figures-rise : (s : State) → Reached trip s → FiguresRise (s .figures)
+    figures-rise s reached = reached-rise trip (accepted-sound map order (accepted .mapped) (accepted .ordered)) reached
 
   -- "full" is told with the labels that fit
   pub full-told : SaysFull answer → toldPlan answer .place ≡ fit

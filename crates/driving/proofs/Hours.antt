@@ -12,7 +12,7 @@ use Rattle.theory.proofs.Figures.{above-end, above-more, above-both, above-at}
 use Rattle.theory.proofs.Changes.{Change, grows, stays, becomes, changedEach}
 use Rattle.driving.specs.declared.Figures.{Figures}
 use Rattle.driving.specs.declared.Rules.{Rules}
-use Rattle.driving.specs.Accepted.{SoundRules, SoundFigures}
+use Rattle.driving.specs.Accepted.{SoundRules, SoundFigures, FiguresRise}
 use Rattle.driving.specs.Compared.{EasesRules}
 use Rattle.driving.specs.Hours.{wheelFigures, wheelLimits, highestLimits, markFigure, driverFigures, highestFigures, drivenOn, firstPause, lastPause, pauseCount, hasSplit, wholeTimes, partTimes, pauseTimes, pauseSeconds, allowances, allowsPause, afterBreak, clearings, cleared}
 
@@ -74,6 +74,27 @@ pub limits-within : (r : Rules) → SoundRules r → T (noneAbove (wheelLimits r
 limits-within r sound =
     let low : r .«spell_limit» .0 ≤ 1000000 = omega (arith, sound .limits-rise, sound .shift-limit-high) in
     above-more _ _ _ _ low (above-more _ _ _ _ (sound .shift-limit-high) (above-more _ _ _ _ (sound .week-limit-high) above-end))
+
+-- spell ≤ shift ≤ week holds of sound figures, and a drive and each pause keep it
+pub sound-rise : (f : Figures) (r : Rules) → SoundFigures f r → FiguresRise f
+sound-rise f r sound = record { spell-shift = sound .figures-rise; shift-week = sound .week-low }
+
+pub driven-rise : (seconds : ℕ) (f : Figures) → FiguresRise f → FiguresRise (drivenOn seconds f)
+driven-rise seconds f rise = record { spell-shift = omega (arith, rise .spell-shift); shift-week = omega (arith, rise .shift-week) }
+
+pub cleared-rise : (kind : ℕ) (f : Figures) → FiguresRise f → FiguresRise (cleared kind f)
+cleared-rise kind f rise = by-row (kind - firstPause)
+  where
+    none-low : (n : ℕ) → 0 ≤ n
+    none-low n = omega arith
+
+    by-row : (row : ℕ) → FiguresRise (getD clearings row (λ f. f) f)
+    by-row zero = record { spell-shift = none-low _; shift-week = rise .shift-week }
+    by-row (suc zero) = record { spell-shift = none-low _; shift-week = none-low _ }
+    by-row (suc (suc zero)) = record { spell-shift = rise .spell-shift; shift-week = rise .shift-week }
+    by-row (suc (suc (suc zero))) = record { spell-shift = none-low _; shift-week = rise .shift-week }
+    by-row (suc (suc (suc (suc zero)))) = record { spell-shift = none-low _; shift-week = none-low _ }
+    by-row (suc (suc (suc (suc (suc row))))) = rise
 
 -- a whole pause is always allowed, and a part only with a split
 pub weekly-allowed : (r : Rules) (f : Figures) (kind : ℕ) → 5 < kind → kind ≤ lastPause → allowsPause r f kind ≡ true

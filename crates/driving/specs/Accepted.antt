@@ -33,6 +33,11 @@ pub record SoundFigures (f : Figures) (r : Rules) : Type 0 where
   pub week-low : f .shift .0 ≤ f .week .0
   pub week-high : f .week .0 ≤ r .«week_limit» .0
 
+-- spell ≤ shift ≤ week, as in every state that a trip reaches
+pub record FiguresRise (f : Figures) : Type 0 where
+  pub spell-shift : f .spell .0 ≤ f .shift .0
+  pub shift-week : f .shift .0 ≤ f .week .0
+
 -- with these, source and target are 1 to J, and departure ≤ latest ≤ 2,000,000,000
 pub record AcceptedOrder (junctions : ℕ) (o : Order) : Type 0 where
   pub source-low : 1 ≤ o .source

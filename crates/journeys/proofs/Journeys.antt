@@ -17,7 +17,9 @@ use Rattle.states.specs.States.{legal, covers}
 use Rattle.moves.specs.Compared.{Eases}
 use Rattle.moves.proofs.Offered.{offered-in, offered-from}
 use Rattle.moves.specs.Runs.{InRange}
-use Rattle.moves.proofs.Rising.{SoundTrip, clock-after, range-after, start-range}
+use Rattle.driving.specs.Accepted.{FiguresRise}
+use Rattle.driving.proofs.Hours.{sound-rise}
+use Rattle.moves.proofs.Rising.{SoundTrip, clock-after, after-rise, range-after, start-range}
 use Rattle.moves.proofs.Monotone.{eased-move}
 use Rattle.theory.specs.States.{Reach, start, step}
 use Rattle.theory.proofs.Lists.{keep-from, keep-head, keep-tail}
@@ -145,3 +147,11 @@ module _ (trip : Trip) (sound : SoundTrip trip) where
 
   pub reached-range : {s : State} → Reached trip s → RangeIn trip s
   reached-range r = leads-range (start-range (junctionsIn trip) (trip .order) (sound .ordered)) (r .1)
+
+  -- spell ≤ shift ≤ week in all that is reachable
+  leads-rise : {s t : State} {ms : List Move} → FiguresRise (s .figures) → Leads trip s ms t → FiguresRise (t .figures)
+  leads-rise rise stay = rise
+  leads-rise rise (go {s = s} {m = m} o l p) = leads-rise (after-rise trip s m rise) p
+
+  pub reached-rise : {s : State} → Reached trip s → FiguresRise (s .figures)
+  reached-rise r = leads-rise (sound-rise (trip .order .figures) (trip .order .rules) (sound .ordered .sound-figures)) (r .1)

@@ -16,9 +16,9 @@ use Rattle.roadmap.proofs.RoadTime.{at-least-1}
 use Rattle.mapcheck.specs.MapCheck.{AcceptedMap}
 use Rattle.mapcheck.proofs.Sound.{sound-map}
 use Rattle.driving.specs.declared.Order.{Order}
-use Rattle.driving.specs.Accepted.{AcceptedOrder}
+use Rattle.driving.specs.Accepted.{AcceptedOrder, FiguresRise}
 use Rattle.driving.specs.Hours.{wheelFigures, highestLimits}
-use Rattle.driving.proofs.Hours.{figures-within, limits-within, pause-takes}
+use Rattle.driving.proofs.Hours.{figures-within, limits-within, driven-rise, cleared-rise, pause-takes}
 use Rattle.states.specs.declared.State.{State}
 use Rattle.states.specs.States.{startOf, legal}
 use Rattle.states.proofs.Compared.{legal-within, within-legal, legal-clock}
@@ -96,6 +96,15 @@ pub clock-after : (trip : Trip) (s : State) (m : Move) → after trip s m .clock
 unfolding after moveSeconds
 clock-after trip s m =
     ⊎-elim (λ (drive : eqb (m .kind) 1 ≡ true). rw drive) (λ (pause : eqb (m .kind) 1 ≡ false). rw pause) (cases (eqb (m .kind) 1))
+
+-- spell ≤ shift ≤ week is kept by every move
+pub after-rise : (trip : Trip) (s : State) (m : Move) → FiguresRise (s .figures) → FiguresRise (after trip s m .figures)
+unfolding after
+after-rise trip s m rise =
+    ⊎-elim
+    (λ (drive : eqb (m .kind) 1 ≡ true). rw drive (driven-rise _ (s .figures) rise))
+    (λ (pause : eqb (m .kind) 1 ≡ false). rw pause (cleared-rise (m .kind) (s .figures) rise))
+    (cases (eqb (m .kind) 1))
 
 module _ (trip : Trip) (sound : SoundTrip trip) (s : State) (m : Move) (offered : offers trip s m ≡ true) where
   pub takes-time : 1 ≤ moveSeconds trip m
