@@ -24,7 +24,7 @@ static uint32_t end_of(const uint8_t *map, uint32_t road) {
 }
 
 static void print_move(const uint8_t *map, size_t map_length, const uint8_t *record) {
-    static const char *const kinds[] = {"", "drive", "break", "rest", "first", "second"};
+    static const char *const kinds[] = {"", "drive", "break", "rest", "first", "second", "weekly"};
     uint32_t kind = word_at(record, 0), number = word_at(record, 4);
     uint32_t reached = kind == TRUNK_DRIVE ? end_of(map, number) : number;
     uint64_t reply[3], part[2];
@@ -34,7 +34,7 @@ static void print_move(const uint8_t *map, size_t map_length, const uint8_t *rec
 
 static void print_moves(const uint8_t *map, size_t map_length, const uint8_t *sheet) {
     for (uint32_t k = 0; k < word_at(sheet, 0); k++) {
-        print_move(map, map_length, sheet + 20 + 12 * k);
+        print_move(map, map_length, sheet + TRUNK_SHEET_HEADER_BYTES + TRUNK_SHEET_RECORD_BYTES * k);
     }
 }
 

@@ -4,10 +4,12 @@
 enum { ORDER_WORDS = TRUNK_ORDER_BYTES / 4 };
 
 static const uint32_t order_words[ORDER_WORDS] = {
-    1, 3, 0, 100000,           /* source, target, departure, latest arrival */
-    0, 0,                      /* spell and shift so far */
-    16200, 2700, 32400, 39600, /* the European limits and pauses */
-    0, 0,                      /* no split break */
+    1, 3, 0, 100000, /* source, target, departure, latest arrival */
+    0, 0, /* spell and shift so far */
+    TRUNK_EUROPEAN_SPELL_LIMIT, TRUNK_EUROPEAN_BREAK_TIME, TRUNK_EUROPEAN_SHIFT_LIMIT, TRUNK_EUROPEAN_REST_TIME,
+    0, 0, /* no split break */
+    TRUNK_EUROPEAN_WEEK_LIMIT, TRUNK_EUROPEAN_WEEKLY_REST,
+    0, /* week so far */
 };
 
 int main(void) {

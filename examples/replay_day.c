@@ -1,8 +1,9 @@
-/* Plans map T for a driver who comes from a rest, then brings the hours up to date from a day's trace and plans again.
- * Run it by examples/run.sh. */
+/* Plans map T for a driver who comes from a weekly rest, then brings the hours up to date from a day's trace and plans
+ * again: early in the week, and where the week is nearly driven. Run it by examples/run.sh. */
 #include "map_t.h"
 
-enum { RECORDS = 7, SPELL = 4, SHIFT = 5, SPELL_LIMIT = 6, ORDER_WORDS = TRUNK_ORDER_BYTES / 4 };
+enum { RECORDS = 7, ORDER_WORDS = TRUNK_ORDER_BYTES / 4 };
+enum { SPELL = 4, SHIFT = 5, SPELL_LIMIT = 6, WEEK = 14 }; /* words of an order; the rules begin with the spell limit */
 
 /* What the tachograph has: activity and seconds. */
 static const uint32_t day[2 * RECORDS] = {
@@ -20,9 +21,10 @@ static int plan(uint32_t *order_words, const uint32_t *figures) {
     static uint8_t order[TRUNK_ORDER_BYTES], sheet[1000];
     static uint32_t words[TRUNK_LABEL_WORDS * 100]; /* room for 100 labels */
     uint64_t reply[3];
-    printf("spell %u shift %u mark %u\n", figures[0], figures[1], figures[2]);
+    printf("spell %u shift %u week %u mark %u\n", figures[0], figures[1], figures[2], figures[3]);
     order_words[SPELL] = figures[0];
     order_words[SHIFT] = figures[1];
+    order_words[WEEK] = figures[2];
     put_words(order, order_words, ORDER_WORDS);
     trunk_plan(map, sizeof map, order, sizeof order, words, sizeof words / sizeof *words, sheet, sizeof sheet, reply, 3);
     print_reply(reply);
@@ -32,23 +34,29 @@ static int plan(uint32_t *order_words, const uint32_t *figures) {
     return reply[0] == TRUNK_DONE;
 }
 
-int main(void) {
-    uint32_t order[ORDER_WORDS] = {
-        1, 3, 0, 100000,           /* source, target, departure, latest arrival */
-        0, 0,                      /* spell and shift so far, below */
-        16200, 2700, 32400, 39600, /* the European limits and pauses */
-        900, 1800,                 /* and the parts of a split break */
-    };
-    uint32_t figures[TRUNK_FIGURE_WORDS] = {0, 0, 0}; /* those of a driver who comes from a rest */
+/* Plans with the day behind these hours. */
+static int plan_after_day(uint32_t *order_words, uint32_t *figures) {
     uint8_t trace[TRUNK_TRACE_RECORD_BYTES * RECORDS];
     uint64_t reply[3];
-    make_map();
     put_words(trace, day, 2 * RECORDS);
-
-    if (!plan(order, figures)) {
-        return 1;
-    }
-    trunk_replay(trace, sizeof trace, order + SPELL_LIMIT, TRUNK_RULE_WORDS, figures, TRUNK_FIGURE_WORDS, reply, 3);
+    trunk_replay(trace, sizeof trace, order_words + SPELL_LIMIT, TRUNK_RULE_WORDS, figures, TRUNK_FIGURE_WORDS, reply, 3);
     print_reply(reply);
-    return reply[0] == TRUNK_DONE && plan(order, figures) ? 0 : 1;
+    return reply[0] == TRUNK_DONE && plan(order_words, figures);
+}
+
+int main(void) {
+    uint32_t order[ORDER_WORDS] = {
+        1, 3, 0, 200000, /* source, target, departure, latest arrival */
+        0, 0,            /* spell and shift so far, which plan sets */
+        TRUNK_EUROPEAN_SPELL_LIMIT, TRUNK_EUROPEAN_BREAK_TIME, TRUNK_EUROPEAN_SHIFT_LIMIT, TRUNK_EUROPEAN_REST_TIME,
+        TRUNK_EUROPEAN_FIRST_PART, TRUNK_EUROPEAN_SECOND_PART, /* of a split break */
+        TRUNK_EUROPEAN_WEEK_LIMIT, TRUNK_EUROPEAN_WEEKLY_REST,
+        0, /* week so far, which plan sets */
+    };
+    uint32_t from_weekly_rest[TRUNK_FIGURE_WORDS] = {0, 0, 0, 0};
+    uint32_t late_in_the_week[TRUNK_FIGURE_WORDS] = {0, 0, 170000, 0}; /* and from a rest */
+    make_map();
+    int planned = plan(order, from_weekly_rest) && plan_after_day(order, from_weekly_rest) &&
+                  plan_after_day(order, late_in_the_week);
+    return planned ? 0 : 1;
 }

@@ -39,14 +39,16 @@
 extern "C" {
 #endif
 
-/* The largest map, the lengths of an order and of a label, and the stack to leave for a call. */
+/* The largest map, the lengths of an order, of a label and of a sheet's parts, and the stack to leave for a call. */
 enum {
     TRUNK_MOST_JUNCTIONS = 12288,
     TRUNK_MOST_ROADS = 40960,
     TRUNK_MOST_NAME_BYTES = 1048576,
     TRUNK_MOST_MAP_BYTES = 16 + 16 * TRUNK_MOST_JUNCTIONS + 20 * TRUNK_MOST_ROADS + TRUNK_MOST_NAME_BYTES,
-    TRUNK_ORDER_BYTES = 48,          /* twelve words */
-    TRUNK_LABEL_WORDS = 9,           /* of label space */
+    TRUNK_ORDER_BYTES = 60,          /* fifteen words: source, target, departure, latest, spell, shift, eight rules, week */
+    TRUNK_LABEL_WORDS = 10,          /* of label space */
+    TRUNK_SHEET_HEADER_BYTES = 24,   /* six words: moves, arrival, spell, shift, week and labels */
+    TRUNK_SHEET_RECORD_BYTES = 12,   /* of a move: three words, its kind, its number and the clock after it */
     TRUNK_PLAN_STACK_BYTES = 262144, /* trunk_plan and trunk_preview */
     TRUNK_STACK_BYTES = 65536,       /* every other function */
 };
@@ -59,19 +61,34 @@ enum {
     TRUNK_OTHER_WORK = 0,
     TRUNK_DRIVING = 1,
     TRUNK_PAUSE = 2,
-    TRUNK_RULE_WORDS = 6,   /* spell limit, break, shift limit, rest, first and second part: words 6 to 11 of an order */
-    TRUNK_FIGURE_WORDS = 3, /* spell, shift: words 4 and 5 of an order; and the mark of a first part, 0 without it */
+    TRUNK_RULE_WORDS = 8,   /* words 6 to 13 of an order: the rules below, in their order */
+    TRUNK_FIGURE_WORDS = 4, /* spell, shift, week: words 4, 5 and 14 of an order; the mark of a first part, 0 without it */
 };
 
-/* The kinds of move on a sheet. A pause is taken at a car park. A first part and later a second part stand for a break
- * where words 10 and 11 of the order, their lengths, are not both 0: the first sets a mark and leaves spell and shift, the
- * second needs the mark, and clears it and spell. Break and rest clear the mark too; an order's start has none. */
+/* The European rules, in seconds, in the order of words 6 to 13 of an order. An order whose break cannot be split has 0
+ * and 0 for the parts. */
+enum {
+    TRUNK_EUROPEAN_SPELL_LIMIT = 16200,
+    TRUNK_EUROPEAN_BREAK_TIME = 2700,
+    TRUNK_EUROPEAN_SHIFT_LIMIT = 32400,
+    TRUNK_EUROPEAN_REST_TIME = 39600,
+    TRUNK_EUROPEAN_FIRST_PART = 900,
+    TRUNK_EUROPEAN_SECOND_PART = 1800,
+    TRUNK_EUROPEAN_WEEK_LIMIT = 201600,
+    TRUNK_EUROPEAN_WEEKLY_REST = 162000,
+};
+
+/* The kinds of move on a sheet. A drive adds to spell, shift and week. A pause is taken at a car park: a break clears
+ * spell, a rest spell and shift, a weekly rest spell, shift and week, and each of them the mark. A first part and later a
+ * second part stand for a break where words 10 and 11 of the order, their lengths, are not both 0: the first sets the mark
+ * and leaves spell, shift and week, the second needs the mark, and clears it and spell. An order's start has no mark. */
 enum {
     TRUNK_DRIVE = 1, /* by the road of the record's number; a pause has the junction's number */
     TRUNK_BREAK = 2,
     TRUNK_REST = 3,
     TRUNK_FIRST_PART = 4,
     TRUNK_SECOND_PART = 5,
+    TRUNK_WEEKLY_REST = 6,
 };
 
 /* What a reply's number says, and what its place is then. */
@@ -85,9 +102,9 @@ enum trunk_number {
     TRUNK_BAD_ROAD = 6,       /* any field: the lowest such road */
     TRUNK_BROKEN_CHAIN = 7,   /* a road off its chain or on another's: the lowest such road */
     TRUNK_BAD_LETTERING = 8,  /* a name byte outside 0x20 to 0x7E: its offset in the map, the lowest */
-    TRUNK_BAD_ORDER = 9,      /* the order is not 48 bytes: its length */
-    TRUNK_BAD_RULES = 10,     /* words 6 to 11 of the order, or the rules: the first such word, 6 to 11 */
-    TRUNK_BAD_TRIP = 11,      /* words 0 to 5 of the order, or the figures: the first such word, 0 to 5 */
+    TRUNK_BAD_ORDER = 9,      /* the order is not 60 bytes: its length */
+    TRUNK_BAD_RULES = 10,     /* words 6 to 13 of the order, or the rules: the first such word, 6 to 13 */
+    TRUNK_BAD_TRIP = 11,      /* words 0 to 5 and 14 of the order, or the figures: the first such word */
     TRUNK_FULL = 12,          /* more labels are needed than fit: the labels that fit */
     TRUNK_NO_ROAD = 13,       /* no legal journey: how many labels there are */
     TRUNK_SHORT_SHEET = 14,   /* the sheet to write is too short: the bytes needed */
@@ -117,7 +134,7 @@ void trunk_check_order(const uint8_t *order, size_t order_length,
 /* Planning. Reads the map and the order; writes the plan to the sheet, and uses `words` as label space,
  * TRUNK_LABEL_WORDS a label, at most 1,000,000 labels. What the words hold before does not matter; afterwards they hold
  * nothing of use. Refuses 1 to 14; 1 to 11 leave the words as they were. Success is 0, the number of labels, the arrival:
- * the sheet then holds the plan in its first 20 + 12 * moves bytes, and the bytes after them stay. */
+ * the sheet then holds the plan in its first 24 + 12 * moves bytes, and the bytes after them stay. */
 void trunk_plan(const uint8_t *map, size_t map_length,
                 const uint8_t *order, size_t order_length,
                 uint32_t *words, size_t word_count,
@@ -125,8 +142,8 @@ void trunk_plan(const uint8_t *map, size_t map_length,
                 uint64_t *reply, size_t reply_count);
 
 /* Retiming. Reads a map, an order and a sheet, of which the figures do not count; writes the same moves with their true
- * figures to `out`. Give the sheet read its own length, 20 + 12 * moves, and no more. Refuses 1 to 11, 15, 16 and 17 move
- * by move, 19, 14. Success is 0, the number of moves, the arrival; bytes of `out` after 20 + 12 * moves stay. */
+ * figures to `out`. Give the sheet read its own length, 24 + 12 * moves, and no more. Refuses 1 to 11, 15, 16 and 17 move
+ * by move, 19, 14. Success is 0, the number of moves, the arrival; bytes of `out` after 24 + 12 * moves stay. */
 void trunk_retime(const uint8_t *map, size_t map_length,
                   const uint8_t *order, size_t order_length,
                   const uint8_t *sheet, size_t sheet_length,
@@ -156,22 +173,22 @@ void trunk_make_chains(uint8_t *map, size_t map_length,
                        uint64_t *reply, size_t reply_count);
 
 /* Replaying: hours from the tachograph. Reads a trace and the rules, and brings the driver's figures up to date by each
- * record: spell, shift, and the mark, which is not judged. Driving adds its seconds to spell and shift. Neighbouring
- * pauses are one pause, judged whole, with the mark from before it: at least as long as the break it clears spell and the
- * mark, at least as long as the rest shift too. A shorter one counts only where the rules have a split, both parts not 0:
- * with the mark and at least as long as the second part it clears mark and spell, otherwise it sets the mark if it is at
- * least as long as the first part. Other work clears nothing and ends a pause, and so does the trace's end: the pauses of
- * two traces are not joined. `rules` takes TRUNK_RULE_WORDS and `figures` TRUNK_FIGURE_WORDS; with less room than that the
- * call does nothing, as with a short reply, and words behind them are not read and stay. Any number but 0 is a mark;
- * a success writes 0 or 1 for it. Refuses 10 and 11 as the order check does, at place 6 to 11 and 4 or 5; 21; 22 and 23
- * record by record. A refused trace leaves every word of the figures as it was. Success is 0, the number of records, 0;
- * an empty trace is one.
+ * record: spell, shift, week, and the mark, which is not judged. Driving adds its seconds to spell, shift and week.
+ * Neighbouring pauses are one pause, judged whole, with the mark from before it: at least as long as the break it clears
+ * spell and the mark, at least as long as the rest shift too, at least as long as the weekly rest week too. A pause shorter
+ * than the break counts only where the rules have a split, both parts not 0: with the mark and at least as long as the
+ * second part it clears mark and spell, otherwise it sets the mark if it is at least as long as the first part. Other work
+ * clears nothing and ends a pause, and so does the trace's end: the pauses of two traces are not joined. `rules` takes
+ * TRUNK_RULE_WORDS and `figures` TRUNK_FIGURE_WORDS; with less room than that the call does nothing, as with a short reply,
+ * and words behind them are not read and stay. Any number but 0 is a mark; a success writes 0 or 1 for it. Refuses 10 and 11
+ * as the order check does, at place 6 to 13 and 4, 5 or 14; 21; 22 and 23 record by record. A refused trace leaves every
+ * word of the figures as it was. Success is 0, the number of records, 0; an empty trace is one.
  *
- * Twelve words `w` that hold an order have the rules from w + 6 on. The figures need room of their own, since the third
- * from w + 4 on would be word 6; spell and shift are then copied back:
- *     uint32_t figures[TRUNK_FIGURE_WORDS] = {w[4], w[5], 0};
+ * Fifteen words `w` that hold an order have the rules from w + 6 on. The figures stand apart in it and need room of their
+ * own; spell, shift and week are then copied back:
+ *     uint32_t figures[TRUNK_FIGURE_WORDS] = {w[4], w[5], w[14], 0};
  *     trunk_replay(trace, trace_length, w + 6, TRUNK_RULE_WORDS, figures, TRUNK_FIGURE_WORDS, reply, 3);
- *     w[4] = figures[0], w[5] = figures[1];
+ *     w[4] = figures[0], w[5] = figures[1], w[14] = figures[2];
  * Planning makes no use of a mark that the trace leaves: an order's start carries none. The next trace may begin with
  * it. */
 void trunk_replay(const uint8_t *trace, size_t trace_length,

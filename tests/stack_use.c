@@ -10,7 +10,8 @@
 #include <string.h>
 #include "trunk.h"
 
-enum { LABELS = 45000, SHEET_BYTES = 20 + 12 * LABELS, STACK_BYTES = 4 << 20 };
+enum { LABELS = 45000, STACK_BYTES = 4 << 20 };
+enum { SHEET_BYTES = TRUNK_SHEET_HEADER_BYTES + TRUNK_SHEET_RECORD_BYTES * LABELS };
 enum { CLOSED_ROAD = 1 }; /* from junction 1 to 2, where the trips start: none drives it */
 
 static uint8_t map[TRUNK_MOST_MAP_BYTES], order[TRUNK_ORDER_BYTES], sheet[SHEET_BYTES], out[SHEET_BYTES];
@@ -19,9 +20,13 @@ static uint32_t words[TRUNK_LABEL_WORDS * LABELS];
 static uint64_t reply[3], part[2];
 static int plans, previews, strikes; /* that succeed, so that calls which only refuse do not pass for a measurement */
 
-/* A day that uses up the hours of a driver who comes from a rest: replayed again it is refused, and leaves the figures. */
-enum { DAY_RECORDS = 6, SPELL_LIMIT = 16200, SHIFT_LIMIT = 32400 };
-static const uint32_t rules[TRUNK_RULE_WORDS] = {SPELL_LIMIT, 2700, SHIFT_LIMIT, 39600, 900, 1800};
+/* A day that uses up the hours of a driver who comes from a weekly rest: replayed again it is refused, and leaves the
+ * figures. */
+enum { DAY_RECORDS = 6, SPELL_LIMIT = TRUNK_EUROPEAN_SPELL_LIMIT, SHIFT_LIMIT = TRUNK_EUROPEAN_SHIFT_LIMIT };
+static const uint32_t rules[TRUNK_RULE_WORDS] = {
+    SPELL_LIMIT, TRUNK_EUROPEAN_BREAK_TIME, SHIFT_LIMIT, TRUNK_EUROPEAN_REST_TIME,
+    TRUNK_EUROPEAN_FIRST_PART, TRUNK_EUROPEAN_SECOND_PART, TRUNK_EUROPEAN_WEEK_LIMIT, TRUNK_EUROPEAN_WEEKLY_REST,
+};
 static const uint32_t day[2 * DAY_RECORDS] = {
     TRUNK_DRIVING, 9000, TRUNK_PAUSE, 900,                        /* the first part of a split break, which sets the mark */
     TRUNK_DRIVING, SPELL_LIMIT - 9000, TRUNK_PAUSE, 1000,         /* the second part, in two neighbouring pauses */
@@ -127,23 +132,31 @@ static void measure(void) {
         strikes += calls[c].call == strike && reply[0] == TRUNK_DONE;
         if (calls[c].call == plan && reply[0] == TRUNK_DONE) {
             plans++;
-            sheet_length = 20 + 12 * (size_t)(sheet[0] | sheet[1] << 8 | sheet[2] << 16 | sheet[3] << 24);
+            size_t moves = sheet[0] | sheet[1] << 8 | sheet[2] << 16 | (size_t)sheet[3] << 24;
+            sheet_length = TRUNK_SHEET_HEADER_BYTES + TRUNK_SHEET_RECORD_BYTES * moves;
         }
     }
+}
+
+/* From junction 2, for a driver who comes from a weekly rest. */
+static void make_order(uint32_t target) {
+    uint8_t *at = put_words(order, (uint32_t[]){2, target, 0, 100000, 0, 0}, 6);
+    at = put_words(at, rules, TRUNK_RULE_WORDS);
+    put_words(at, (uint32_t[]){0}, 1);
 }
 
 int main(void) {
     stack = aligned_alloc(4096, STACK_BYTES);
     put_words(trace, day, 2 * DAY_RECORDS);
     for (uint32_t target = 0; target <= 3; target++) {
-        put_words(order, (uint32_t[]){2, target, 0, 100000, 0, 0, 16200, 2700, 32400, 39600, 900, 1800}, 12);
+        make_order(target);
         make_map(3, 3, 9);
         measure();
         make_map(TRUNK_MOST_JUNCTIONS, TRUNK_MOST_ROADS, TRUNK_MOST_NAME_BYTES);
         measure();
     }
     int failed = plans != 6 || previews != 6 || strikes != 8;
-    failed |= figures[0] != SPELL_LIMIT || figures[1] != SHIFT_LIMIT || figures[2] != 0;
+    failed |= figures[0] != SPELL_LIMIT || figures[1] != SHIFT_LIMIT || figures[2] != SHIFT_LIMIT || figures[3] != 0;
     for (int c = 0; c < CALLS; c++) {
         printf("%-17s %7zu bytes of stack\n", calls[c].name, calls[c].bytes);
         failed |= calls[c].bytes > calls[c].enough;

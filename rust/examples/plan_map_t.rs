@@ -12,6 +12,8 @@ fn main() -> Result<(), trunk::Refused> {
         0, 0, // spell and shift so far
         16_200, 2_700, 32_400, 39_600, // the European limits and pauses
         0, 0, // no split break
+        201_600, 162_000, // the European week limit and weekly rest
+        0,       // week so far
     ]);
     let mut words = vec![0; trunk::LABEL_WORDS * 100]; // room for 100 labels
     let mut sheet = vec![0; 1000];

@@ -1,7 +1,7 @@
 //! Safe Rust over the trunk lorry planner, a library that is proved in Rattle: from a road map with car parks, a
 //! driver's hours and a trip to the legal route, with breaks and rests, that arrives first.
 //!
-//! Maps, orders and sheets are bytes in the formats of documents 01 and 02 (P5), and traces in that of document 02 (P3);
+//! Maps, orders and sheets are bytes in the formats of documents 01 and 02 (P7), and traces in that of document 02 (P3);
 //! `include/trunk.h` lists the refusals and what each call reads and writes. Every call ends, allocates nothing, and
 //! answers bad input by a refusal that changes no byte.
 //!
@@ -22,10 +22,15 @@ pub const MOST_ROADS: usize = 40_960;
 pub const MOST_NAME_BYTES: usize = 1_048_576;
 /// The length of the largest map.
 pub const MOST_MAP_BYTES: usize = 16 + 16 * MOST_JUNCTIONS + 20 * MOST_ROADS + MOST_NAME_BYTES;
-/// The length of an order: twelve words.
-pub const ORDER_BYTES: usize = 48;
+/// The length of an order: fifteen words, source, target, departure, latest arrival, spell, shift, the eight of [`Rules`]
+/// and week.
+pub const ORDER_BYTES: usize = 60;
 /// The words of a label in the label space of [`plan`] and [`preview`].
-pub const LABEL_WORDS: usize = 9;
+pub const LABEL_WORDS: usize = 10;
+/// The bytes of a sheet's header: six words, moves, arrival, spell, shift, week and labels. The moves' records follow.
+pub const SHEET_HEADER_BYTES: usize = 24;
+/// The bytes of a move's record on a sheet: three words, its kind, its number and the clock after it.
+pub const SHEET_RECORD_BYTES: usize = 12;
 /// The stack to leave for [`plan`] and [`preview`].
 pub const PLAN_STACK_BYTES: usize = 256 * 1024;
 /// The stack to leave for every other call.
@@ -41,6 +46,8 @@ pub const REST: u32 = 3;
 pub const FIRST_PART: u32 = 4;
 /// A sheet's kind of move: the second part of a split break.
 pub const SECOND_PART: u32 = 5;
+/// A sheet's kind of move: a weekly rest.
+pub const WEEKLY_REST: u32 = 6;
 /// The bytes of a trace's record: two words, the activity and its seconds.
 pub const TRACE_RECORD_BYTES: usize = 8;
 /// The most seconds of a trace's record.
@@ -173,9 +180,10 @@ pub enum Refusal {
     BadLettering,
     /// The order is not [`ORDER_BYTES`]. Place: its length.
     BadOrder,
-    /// Words 6 to 11 of the order, which are also the [`Rules`] of a replay. Place: the first such word.
+    /// Words 6 to 13 of the order, which are also the [`Rules`] of a replay. Place: the first such word.
     BadRules,
-    /// Words 0 to 5 of the order, of which 4 and 5 are also the [`Figures`] of a replay. Place: the first such word.
+    /// Words 0 to 5 and 14 of the order, of which 4, 5 and 14 are also the [`Figures`] of a replay. Place: the first such
+    /// word.
     BadTrip,
     /// More labels are needed than fit. Place: the labels that fit.
     Full,
@@ -280,7 +288,7 @@ pub struct Timed {
     pub arrival: u64,
 }
 
-/// How long a driver may be at the wheel, and how long the pauses are that allow more: words 6 to 11 of an order, in
+/// How long a driver may be at the wheel, and how long the pauses are that allow more: words 6 to 13 of an order, in
 /// seconds.
 #[derive(Clone, Copy, Debug, PartialEq, Eq, Hash)]
 pub struct Rules {
@@ -296,10 +304,15 @@ pub struct Rules {
     pub first_part: u32,
     /// How long the second part is.
     pub second_part: u32,
+    /// The most wheel time from one weekly rest to the next.
+    pub week_limit: u32,
+    /// How long a weekly rest is.
+    pub weekly_rest: u32,
 }
 
 impl Rules {
-    /// The European rules: Regulation (EC) 561/2006, which lets 15 minutes followed by 30 stand for a break.
+    /// The European rules: Regulation (EC) 561/2006, which lets 15 minutes followed by 30 stand for a break. Its week is
+    /// counted here from one weekly rest to the next.
     pub const fn european() -> Rules {
         Rules {
             spell_limit: 16_200,
@@ -308,18 +321,36 @@ impl Rules {
             rest_time: 39_600,
             first_part: 900,
             second_part: 1_800,
+            week_limit: 201_600,
+            weekly_rest: 162_000,
         }
+    }
+
+    /// Words 6 to 13 of an order.
+    pub const fn words(self) -> [u32; 8] {
+        [
+            self.spell_limit,
+            self.break_time,
+            self.shift_limit,
+            self.rest_time,
+            self.first_part,
+            self.second_part,
+            self.week_limit,
+            self.weekly_rest,
+        ]
     }
 }
 
-/// A driver's figures: words 4 and 5 of an order, in seconds, and the mark. The default is a driver who comes from a
-/// rest.
+/// A driver's figures: words 4, 5 and 14 of an order, in seconds, and the mark. The default is a driver who comes from a
+/// weekly rest.
 #[derive(Clone, Copy, Debug, Default, PartialEq, Eq, Hash)]
 pub struct Figures {
-    /// Wheel time since the last break, second part or rest.
+    /// Wheel time since the last break, second part, rest or weekly rest.
     pub spell: u32,
-    /// Wheel time since the last rest.
+    /// Wheel time since the last rest or weekly rest.
     pub shift: u32,
+    /// Wheel time since the last weekly rest.
+    pub week: u32,
     /// Whether the first part of a split break is behind the driver, and no pause since that clears it. An order's start
     /// carries no mark.
     pub marked: bool,
@@ -393,7 +424,7 @@ pub fn check_order(order: &[u8], junctions: u32) -> Result<(), Refused> {
 /// Planning: writes the first-arriving legal plan to the sheet. Refusals 1 to 14.
 ///
 /// `words` is label space, [`LABEL_WORDS`] a label, of which at most 1,000,000 labels are used; what it holds does not
-/// matter before and is of no use afterwards. A plan of M moves takes 20 + 12M bytes of the sheet; the bytes after them
+/// matter before and is of no use afterwards. A plan of M moves takes 24 + 12M bytes of the sheet; the bytes after them
 /// stay.
 pub fn plan(
     map: &[u8],
@@ -421,7 +452,7 @@ pub fn plan(
 /// Retiming: writes the moves of a sheet with their true figures to another sheet. Refusals 1 to 11, 15, 16 and 17 move
 /// by move, 19, 14.
 ///
-/// The sheet that is read is exactly 20 + 12M bytes for its M moves.
+/// The sheet that is read is exactly 24 + 12M bytes for its M moves.
 pub fn retime(map: &[u8], order: &[u8], sheet: &[u8], out: &mut [u8]) -> Result<Timed, Refused> {
     let reply = replied(|reply, count| unsafe {
         raw::trunk_retime(
@@ -495,21 +526,20 @@ pub fn make_chains(map: &mut [u8]) -> Result<(), Refused> {
 /// by record; a refusal leaves the figures.
 ///
 /// A record is two little-endian words: [`OTHER_WORK`], [`DRIVING`] or [`PAUSE`], and its seconds, 1 to
-/// [`MOST_TRACE_SECONDS`]. Driving adds to spell and shift. Neighbouring pauses are one pause, judged whole, with the mark
-/// from before it. At least as long as the break it clears spell and the mark, at least as long as the rest shift too. A
-/// shorter one counts where the rules have a split: with the mark and at least as long as the second part it clears mark
-/// and spell, otherwise it sets the mark if it is at least as long as the first part. Other work clears nothing and ends a
-/// pause, and so does the trace's end: the pauses of two traces are not joined.
+/// [`MOST_TRACE_SECONDS`]. Driving adds to spell, shift and week. Neighbouring pauses are one pause, judged whole, with the
+/// mark from before it. At least as long as the break it clears spell and the mark, at least as long as the rest shift too,
+/// at least as long as the weekly rest week too. One shorter than the break counts where the rules have a split: with the
+/// mark and at least as long as the second part it clears mark and spell, otherwise it sets the mark if it is at least as
+/// long as the first part. Other work clears nothing and ends a pause, and so does the trace's end: the pauses of two traces
+/// are not joined.
 pub fn replay(trace: &[u8], rules: Rules, figures: &mut Figures) -> Result<Replayed, Refused> {
-    let words = [
-        rules.spell_limit,
-        rules.break_time,
-        rules.shift_limit,
-        rules.rest_time,
-        rules.first_part,
-        rules.second_part,
+    let words = rules.words();
+    let mut lent = [
+        figures.spell,
+        figures.shift,
+        figures.week,
+        figures.marked.into(),
     ];
-    let mut lent = [figures.spell, figures.shift, figures.marked.into()];
     let answer = replied(|reply, count| unsafe {
         raw::trunk_replay(
             trace.as_ptr(),
@@ -522,10 +552,11 @@ pub fn replay(trace: &[u8], rules: Rules, figures: &mut Figures) -> Result<Repla
             count,
         )
     });
-    let [spell, shift, mark] = lent;
+    let [spell, shift, week, mark] = lent;
     *figures = Figures {
         spell,
         shift,
+        week,
         marked: mark != 0,
     };
     Ok(Replayed {

@@ -1,11 +1,14 @@
-//! Document 01's trial trips, a refusal of each call, the largest map, replayed traces and closures, through the library.
+//! Document 01's trial trips, a refusal of each call, the largest map, replayed traces, closures and weeks, through the
+//! library.
 mod closures;
+mod weeks;
 
 use super::*;
 
 const NAMES: &[u8] = b"HubLayEnd";
 const FIRST_ROAD_OF_HUB: usize = 16;
 const NEXT_OF_ROAD_1: usize = 16 + 16 * 3 + 16;
+const LABELS_ON_SHEET: usize = 20;
 
 fn bytes_of(words: &[u32]) -> Vec<u8> {
     words.iter().flat_map(|word| word.to_le_bytes()).collect()
@@ -27,14 +30,20 @@ fn order_t(latest: u32) -> Vec<u8> {
     order_with_parts(latest, [0, 0])
 }
 
-fn order_with_parts(latest: u32, [first, second]: [u32; 2]) -> Vec<u8> {
-    bytes_of(&[
-        1, 3, 0, latest, 0, 0, 16200, 2700, 32400, 39600, first, second,
-    ])
+fn order_with_parts(latest: u32, parts: [u32; 2]) -> Vec<u8> {
+    european_order([1, 3], latest, parts)
+}
+
+/// For a driver who comes from a weekly rest.
+fn european_order([source, target]: [u32; 2], latest: u32, parts: [u32; 2]) -> Vec<u8> {
+    let ends_and_figures = [source, target, 0, latest, 0, 0];
+    let limits_and_pauses = [16200, 2700, 32400, 39600];
+    let week = [201600, 162000, 0];
+    bytes_of(&[&ends_and_figures[..], &limits_and_pauses, &parts, &week].concat())
 }
 
 fn planned_sheet() -> Vec<u8> {
-    let mut sheet = vec![0; 56];
+    let mut sheet = vec![0; 60];
     plan(
         &map_t(),
         &order_t(100_000),
@@ -51,7 +60,7 @@ fn refused<T>(refusal: Refusal, place: u64) -> Result<T, Refused> {
 
 #[test]
 fn plans_map_t() {
-    let mut sheet = vec![0xEE; 60];
+    let mut sheet = vec![0xEE; 64];
     let planned = plan(
         &map_t(),
         &order_t(100_000),
@@ -66,7 +75,8 @@ fn plans_map_t() {
         })
     );
     let mut written = bytes_of(&[
-        3, 20_700, 7_200, 18_000, 4, 1, 1, 10_800, 2, 2, 13_500, 1, 2, 20_700,
+        3, 20_700, 7_200, 18_000, 18_000, 4, // header
+        1, 1, 10_800, 2, 2, 13_500, 1, 2, 20_700, // records
     ]);
     written.extend([0xEE; 4]);
     assert_eq!(sheet, written);
@@ -76,7 +86,7 @@ fn plans_map_t() {
 #[test]
 fn plans_map_t_with_europes_parts() {
     let order = order_with_parts(100_000, [900, 1_800]);
-    let mut sheet = vec![0; 56];
+    let mut sheet = vec![0; 60];
     let planned = plan(&map_t(), &order, &mut [7; LABEL_WORDS * 6], &mut sheet);
     assert_eq!(
         planned,
@@ -86,7 +96,7 @@ fn plans_map_t_with_europes_parts() {
         })
     );
     let mut expected = planned_sheet();
-    expected[16] = 6;
+    expected[LABELS_ON_SHEET] = 6;
     assert_eq!(sheet, expected);
     let full = plan(&map_t(), &order, &mut [7; LABEL_WORDS * 6 - 1], &mut sheet);
     assert_eq!(full, refused(Refusal::Full, 5));
@@ -96,7 +106,7 @@ fn plans_map_t_with_europes_parts() {
 #[test]
 fn plans_a_split_break() {
     let order = order_with_parts(100_000, [900, 1_799]);
-    let mut sheet = vec![0; 68];
+    let mut sheet = vec![0; 72];
     let planned = plan(&map_t(), &order, &mut [7; LABEL_WORDS * 6], &mut sheet);
     assert_eq!(
         planned,
@@ -111,7 +121,7 @@ fn plans_a_split_break() {
         [SECOND_PART, 2, 13_499],
         [DRIVE, 2, 20_699],
     ];
-    let mut written = bytes_of(&[4, 20_699, 7_200, 18_000, 6]);
+    let mut written = bytes_of(&[4, 20_699, 7_200, 18_000, 18_000, 6]);
     written.extend(bytes_of(&records.concat()));
     assert_eq!(sheet, written);
     let timed = Ok(Timed {
@@ -129,7 +139,7 @@ fn latest_arrival_decides() {
         &map_t(),
         &order_t(20_700),
         &mut [0; LABEL_WORDS * 4],
-        &mut [0; 56],
+        &mut [0; 60],
     );
     assert_eq!(
         planned,
@@ -142,7 +152,7 @@ fn latest_arrival_decides() {
         &map_t(),
         &order_t(20_699),
         &mut [0; LABEL_WORDS * 4],
-        &mut [0; 56],
+        &mut [0; 60],
     );
     assert_eq!(late, refused(Refusal::NoRoad, 3));
 }
@@ -153,7 +163,7 @@ fn three_labels_are_full() {
         &map_t(),
         &order_t(100_000),
         &mut [0; LABEL_WORDS * 4 - 1],
-        &mut [0; 56],
+        &mut [0; 60],
     );
     assert_eq!(full, refused(Refusal::Full, 3));
 }
@@ -168,22 +178,22 @@ fn no_label_space_and_no_sheet() {
 
 #[test]
 fn a_short_sheet_stays() {
-    let mut sheet = [0xEE; 55];
+    let mut sheet = [0xEE; 59];
     let short = plan(
         &map_t(),
         &order_t(100_000),
         &mut [0; LABEL_WORDS * 4],
         &mut sheet,
     );
-    assert_eq!(short, refused(Refusal::ShortSheet, 56));
-    assert_eq!(sheet, [0xEE; 55]);
+    assert_eq!(short, refused(Refusal::ShortSheet, 60));
+    assert_eq!(sheet, [0xEE; 59]);
 }
 
 #[test]
 fn a_refusal_before_the_search_leaves_the_label_space() {
     let mut words = [7; LABEL_WORDS * 4];
-    let bad = plan(&map_t(), &order_t(100_000)[..47], &mut words, &mut [0; 56]);
-    assert_eq!(bad, refused(Refusal::BadOrder, 47));
+    let bad = plan(&map_t(), &order_t(100_000)[..59], &mut words, &mut [0; 60]);
+    assert_eq!(bad, refused(Refusal::BadOrder, 59));
     assert_eq!(words, [7; LABEL_WORDS * 4]);
 }
 
@@ -196,8 +206,8 @@ fn retimes_and_audits_a_plan() {
     let true_sheet = planned_sheet();
     let mut false_sheet = true_sheet.clone();
     false_sheet[4] += 1; // arrival
-    false_sheet[20 + 12 + 8] += 1; // the clock after move 2
-    let mut out = vec![0; 56];
+    false_sheet[24 + 12 + 8] += 1; // the clock after move 2
+    let mut out = vec![0; 60];
     assert_eq!(audit(&map_t(), &order_t(100_000), &true_sheet), timed);
     assert_eq!(
         audit(&map_t(), &order_t(100_000), &false_sheet),
@@ -209,13 +219,15 @@ fn retimes_and_audits_a_plan() {
     );
     assert_eq!(out, true_sheet);
     assert_eq!(
-        retime(&map_t(), &order_t(100_000), &false_sheet, &mut out[..55]),
-        refused(Refusal::ShortSheet, 56)
+        retime(&map_t(), &order_t(100_000), &false_sheet, &mut out[..59]),
+        refused(Refusal::ShortSheet, 60)
     );
-    assert_eq!(
-        audit(&map_t(), &order_t(100_000), &true_sheet[..55]),
-        refused(Refusal::TornSheet, 55)
-    );
+    for length in [23, 59] {
+        assert_eq!(
+            audit(&map_t(), &order_t(100_000), &true_sheet[..length]),
+            refused(Refusal::TornSheet, length as u64)
+        );
+    }
 }
 
 #[test]
@@ -252,12 +264,13 @@ fn checks_orders_without_a_map() {
     assert_eq!(check_order(&order, 3), Ok(()));
     assert_eq!(check_order(&order, u32::MAX), Ok(()));
     assert_eq!(check_order(&[], 3), refused(Refusal::BadOrder, 0));
-    assert_eq!(check_order(&order[..40], 3), refused(Refusal::BadOrder, 40));
-    assert_eq!(check_order(&order[..47], 3), refused(Refusal::BadOrder, 47));
+    assert_eq!(check_order(&order[..48], 3), refused(Refusal::BadOrder, 48));
+    assert_eq!(check_order(&order[..59], 3), refused(Refusal::BadOrder, 59));
     assert_eq!(check_order(&order, 2), refused(Refusal::BadTrip, 1));
     assert_eq!(check_order(&order, 0), refused(Refusal::BadTrip, 0));
-    let bad_rules = bytes_of(&[0, 3, 0, 100_000, 0, 0, 16200, 2700, 32400, 0, 0, 0]);
-    assert_eq!(check_order(&bad_rules, 3), refused(Refusal::BadRules, 9));
+    let mut no_rest = european_order([0, 3], 100_000, [0, 0]);
+    no_rest[36..40].fill(0);
+    assert_eq!(check_order(&no_rest, 3), refused(Refusal::BadRules, 9));
     for (parts, place) in [
         ([0, 1], 10),
         ([1, 0], 11),
@@ -304,7 +317,7 @@ fn ring_map(junctions: u32, roads: u32) -> Vec<u8> {
 
 /// The European order from 2 to 1.
 fn ring_order() -> Vec<u8> {
-    bytes_of(&[2, 1, 0, 100_000, 0, 0, 16200, 2700, 32400, 39600, 0, 0])
+    european_order([2, 1], 100_000, [0, 0])
 }
 
 /// Each junction of the largest map is a label, and the plan takes the ring's roads in turn; the last is the map's last.
@@ -317,7 +330,7 @@ fn the_largest_map_passes_and_plans() {
     assert_eq!(make_chains(&mut map), Ok(()));
     assert_eq!(map, before);
     assert_eq!(name(&map, 12_288), Ok(&b"n"[..]));
-    let (order, mut sheet) = (ring_order(), vec![0; 20 + 12 * 12_287]);
+    let (order, mut sheet) = (ring_order(), vec![0; 24 + 12 * 12_287]);
     assert_eq!(
         plan(&map, &order, &mut vec![7; LABEL_WORDS * 12_288], &mut sheet),
         Ok(Planned {
@@ -360,12 +373,12 @@ fn the_largest_map_is_previewed_and_struck() {
 fn one_junction_or_road_too_many_is_oversize() {
     for (junctions, roads, place) in [(12_289, 40_960, 4), (12_288, 40_961, 8)] {
         let mut map = ring_map(junctions, roads);
-        let (mut words, mut sheet) = ([7; LABEL_WORDS], [0xEE; 20]);
+        let (mut words, mut sheet) = ([7; LABEL_WORDS], [0xEE; 24]);
         assert_eq!(
             plan(&map, &ring_order(), &mut words, &mut sheet),
             refused(Refusal::Oversize, place)
         );
-        assert_eq!((words, sheet), ([7; LABEL_WORDS], [0xEE; 20]));
+        assert_eq!((words, sheet), ([7; LABEL_WORDS], [0xEE; 24]));
         assert_eq!(check_map(&map), refused(Refusal::Oversize, place));
         let before = map.clone();
         assert_eq!(make_chains(&mut map), refused(Refusal::Oversize, place));
@@ -382,11 +395,14 @@ fn the_header_has_the_same_figures() {
         ("MOST_NAME_BYTES", MOST_NAME_BYTES),
         ("ORDER_BYTES", ORDER_BYTES),
         ("LABEL_WORDS", LABEL_WORDS),
+        ("SHEET_HEADER_BYTES", SHEET_HEADER_BYTES),
+        ("SHEET_RECORD_BYTES", SHEET_RECORD_BYTES),
         ("DRIVE", DRIVE as usize),
         ("BREAK", BREAK as usize),
         ("REST", REST as usize),
         ("FIRST_PART", FIRST_PART as usize),
         ("SECOND_PART", SECOND_PART as usize),
+        ("WEEKLY_REST", WEEKLY_REST as usize),
         ("PLAN_STACK_BYTES", PLAN_STACK_BYTES),
         ("STACK_BYTES", STACK_BYTES),
         ("TRACE_RECORD_BYTES", TRACE_RECORD_BYTES),
@@ -400,6 +416,25 @@ fn the_header_has_the_same_figures() {
             "{name}"
         );
     }
+}
+
+/// In the order of an order's words.
+#[test]
+fn the_header_has_the_european_rules() {
+    let header = include_str!("../../include/trunk.h");
+    let names = [
+        "SPELL_LIMIT",
+        "BREAK_TIME",
+        "SHIFT_LIMIT",
+        "REST_TIME",
+        "FIRST_PART",
+        "SECOND_PART",
+        "WEEK_LIMIT",
+        "WEEKLY_REST",
+    ];
+    let named = |(name, seconds)| format!("    TRUNK_EUROPEAN_{name} = {seconds},\n");
+    let rules = names.into_iter().zip(Rules::european().words());
+    assert!(header.contains(&rules.map(named).collect::<String>()));
 }
 
 /// `TRUNK_SHORT_MAP` for `ShortMap`.
@@ -436,7 +471,7 @@ fn numbers_are_the_documents() {
 #[test]
 fn a_short_reply_changes_nothing() {
     let (map, order) = (map_t(), order_t(100_000));
-    let (mut words, mut sheet, mut reply) = ([7; LABEL_WORDS * 4], [0xEE; 56], [9; 2]);
+    let (mut words, mut sheet, mut reply) = ([7; LABEL_WORDS * 4], [0xEE; 60], [9; 2]);
     unsafe {
         raw::trunk_plan(
             map.as_ptr(),
@@ -453,7 +488,7 @@ fn a_short_reply_changes_nothing() {
     };
     assert_eq!(
         (words, sheet, reply),
-        ([7; LABEL_WORDS * 4], [0xEE; 56], [9; 2])
+        ([7; LABEL_WORDS * 4], [0xEE; 60], [9; 2])
     );
 }
 
@@ -512,13 +547,14 @@ fn a_name_needs_room_for_its_place() {
     assert_eq!((reply, part), ([20, 4, 0, 9], [0, 0, 9]));
 }
 
-/// Both figures at their European limits.
-const TIRED: Figures = figures(16_200, 32_400, false);
+/// All figures at their European limits.
+const TIRED: Figures = figures([16_200, 32_400, 201_600], false);
 
-const fn figures(spell: u32, shift: u32, marked: bool) -> Figures {
+const fn figures([spell, shift, week]: [u32; 3], marked: bool) -> Figures {
     Figures {
         spell,
         shift,
+        week,
         marked,
     }
 }
@@ -544,14 +580,18 @@ fn a_day_is_replayed() {
         (PAUSE, 1_200),
         (DRIVING, 9_000),
     ];
-    let after = |spell, shift| figures(spell, shift, false);
+    let after = |wheel| figures(wheel, false);
     let fresh = Figures::default();
     let european = |day: &[(u32, u32)]| replayed(&trace_of(day), Rules::european(), fresh);
-    assert_eq!(european(&day), (Ok(5), after(9_000, 25_200)));
+    assert_eq!(european(&day), (Ok(5), after([9_000, 25_200, 25_200])));
     day.push((PAUSE, 39_599));
-    assert_eq!(european(&day), (Ok(6), after(0, 25_200)));
+    assert_eq!(european(&day), (Ok(6), after([0, 25_200, 25_200])));
     day.push((PAUSE, 1));
-    assert_eq!(european(&day), (Ok(7), after(0, 0)));
+    assert_eq!(european(&day), (Ok(7), after([0, 0, 25_200])));
+    day.push((PAUSE, 162_000 - 39_600 - 1));
+    assert_eq!(european(&day), (Ok(8), after([0, 0, 25_200])));
+    day.push((PAUSE, 1));
+    assert_eq!(european(&day), (Ok(9), after([0, 0, 0])));
     assert_eq!(
         replayed(&[], Rules::european(), TIRED),
         (Ok(0), TIRED),
@@ -568,7 +608,7 @@ fn other_work_ends_a_pause() {
         ..Rules::european()
     };
     assert_eq!(replayed(&apart, no_split, TIRED), (Ok(3), TIRED));
-    let broken = figures(0, 32_400, false);
+    let broken = figures([0, 32_400, 201_600], false);
     assert_eq!(replayed(&apart, Rules::european(), TIRED), (Ok(3), broken));
 }
 
@@ -578,15 +618,15 @@ fn a_pause_is_judged_whole_with_the_mark_before_it() {
         let (answer, after) = replayed(
             &trace_of(records),
             Rules::european(),
-            figures(15, 20, marked),
+            figures([15, 20, 25], marked),
         );
         assert_eq!(answer, Ok(records.len() as u64));
         after
     };
     let (unmarked, marked, broken) = (
-        figures(15, 20, false),
-        figures(15, 20, true),
-        figures(0, 20, false),
+        figures([15, 20, 25], false),
+        figures([15, 20, 25], true),
+        figures([0, 20, 25], false),
     );
     assert_eq!(european(&[(PAUSE, 899)], false), unmarked);
     assert_eq!(european(&[(PAUSE, 900)], false), marked);
@@ -598,7 +638,7 @@ fn a_pause_is_judged_whole_with_the_mark_before_it() {
     assert_eq!(european(&[(PAUSE, 1_799)], true), marked);
     assert_eq!(european(&[(PAUSE, 1_000), (PAUSE, 800)], true), broken);
     assert_eq!(european(&[(PAUSE, 2_700)], true), broken);
-    assert_eq!(european(&[(DRIVING, 5)], true), figures(20, 25, true));
+    assert_eq!(european(&[(DRIVING, 5)], true), figures([20, 25, 30], true));
 }
 
 /// 4,294,967,296 seconds of pause, which 32 bits would take for none.
@@ -614,13 +654,14 @@ fn a_pause_may_be_longer_than_a_word() {
 
 #[test]
 fn a_refused_trace_leaves_the_figures() {
-    let rest_then = |record| trace_of(&[(PAUSE, 39_600), record]);
+    let weekly_then = |record| trace_of(&[(PAUSE, 162_000), record]);
+    let torn = weekly_then((PAUSE, 1))[..15].to_vec();
     let cases = [
-        (rest_then((DRIVING, 16_201)), Refusal::PastLimit, 2),
-        (rest_then((DRIVING, 1_000_001)), Refusal::OddRecord, 2),
-        (rest_then((PAUSE, 0)), Refusal::OddRecord, 2),
-        (rest_then((257, 1)), Refusal::OddRecord, 2),
-        (rest_then((PAUSE, 1))[..15].to_vec(), Refusal::TornTrace, 15),
+        (weekly_then((DRIVING, 16_201)), Refusal::PastLimit, 2),
+        (weekly_then((DRIVING, 1_000_001)), Refusal::OddRecord, 2),
+        (weekly_then((PAUSE, 0)), Refusal::OddRecord, 2),
+        (weekly_then((257, 1)), Refusal::OddRecord, 2),
+        (torn, Refusal::TornTrace, 15),
     ];
     for (trace, refusal, place) in cases {
         for marked in [false, true] {
@@ -640,7 +681,7 @@ fn rules_and_figures_come_first() {
         rest_time: 0,
         ..Rules::european()
     };
-    let spell_above_shift = figures(2, 1, true);
+    let spell_above_shift = figures([2, 1, 1], true);
     assert_eq!(
         replayed(&[0], no_rest, spell_above_shift),
         (refused(Refusal::BadRules, 9), spell_above_shift)
@@ -649,7 +690,7 @@ fn rules_and_figures_come_first() {
         replayed(&[0], Rules::european(), spell_above_shift),
         (refused(Refusal::BadTrip, 5), spell_above_shift)
     );
-    let above_its_limit = figures(16_201, 16_201, true);
+    let above_its_limit = figures([16_201, 16_201, 16_201], true);
     let lone_zero = Rules {
         first_part: 0,
         ..Rules::european()
@@ -665,8 +706,10 @@ fn rules_and_figures_come_first() {
 }
 
 /// Calls the library with so many of these rule words, figure words and numbers for the reply.
-fn replayed_raw(trace: &[u8], counts: [usize; 3], before: [u32; 4]) -> ([u32; 4], [u64; 4]) {
-    let rules = [16_200, 2_700, 32_400, 39_600, 900, 1_800, u32::MAX];
+fn replayed_raw(trace: &[u8], counts: [usize; 3], before: [u32; 5]) -> ([u32; 5], [u64; 4]) {
+    let rules = [
+        16_200, 2_700, 32_400, 39_600, 900, 1_800, 201_600, 162_000, 0,
+    ];
     let (mut figures, mut reply) = (before, [9; 4]);
     let [rule_count, figure_count, reply_count] = counts;
     unsafe {
@@ -688,12 +731,12 @@ fn replayed_raw(trace: &[u8], counts: [usize; 3], before: [u32; 4]) -> ([u32; 4]
 #[test]
 fn a_replay_needs_room_for_rules_and_figures() {
     let trace = trace_of(&[(DRIVING, 9)]);
-    let before = [5, 7, 1, u32::MAX];
-    let done = ([14, 16, 1, u32::MAX], [0, 1, 0, 9]);
-    for counts in [[6, 3, 3], [6, 3, 4], [7, 3, 3], [6, 4, 3], [7, 4, 4]] {
+    let before = [5, 7, 8, 1, u32::MAX];
+    let done = ([14, 16, 17, 1, u32::MAX], [0, 1, 0, 9]);
+    for counts in [[8, 4, 3], [8, 4, 4], [9, 4, 3], [8, 5, 3], [9, 5, 4]] {
         assert_eq!(replayed_raw(&trace, counts, before), done);
     }
-    for counts in [[5, 3, 3], [6, 2, 3], [6, 3, 2], [4, 2, 3], [0, 0, 0]] {
+    for counts in [[7, 4, 3], [8, 3, 3], [8, 4, 2], [6, 3, 3], [0, 0, 0]] {
         assert_eq!(replayed_raw(&trace, counts, before), (before, [9; 4]));
     }
 }
@@ -705,11 +748,11 @@ fn a_mark_is_any_number_but_0() {
     let second_part = trace_of(&[(PAUSE, 1_800)]);
     let past_limit = trace_of(&[(DRIVING, 16_201)]);
     for mark in [1, 2, 256, u32::MAX] {
-        let before = [5, 7, mark, 8];
-        let after = |trace: &[u8]| replayed_raw(trace, [6, 3, 3], before).0;
-        assert_eq!(after(&[]), [5, 7, 1, 8]);
-        assert_eq!(after(&first_part), [5, 7, 1, 8]);
-        assert_eq!(after(&second_part), [0, 7, 0, 8]);
+        let before = [5, 7, 9, mark, 8];
+        let after = |trace: &[u8]| replayed_raw(trace, [8, 4, 3], before).0;
+        assert_eq!(after(&[]), [5, 7, 9, 1, 8]);
+        assert_eq!(after(&first_part), [5, 7, 9, 1, 8]);
+        assert_eq!(after(&second_part), [0, 7, 9, 0, 8]);
         assert_eq!(after(&past_limit), before);
     }
 }

@@ -1,4 +1,5 @@
 //! What the examples share: words as bytes, and the lines of a plan.
+use trunk::{SHEET_HEADER_BYTES, SHEET_RECORD_BYTES};
 
 fn word_at(bytes: &[u8], at: usize) -> u32 {
     u32::from_le_bytes(bytes[at..at + 4].try_into().unwrap())
@@ -11,7 +12,8 @@ pub fn bytes_of(words: &[u32]) -> Vec<u8> {
 /// The moves on a sheet, a line each.
 pub fn print_moves(map: &[u8], sheet: &[u8]) -> Result<(), trunk::Refused> {
     let moves = word_at(sheet, 0) as usize;
-    for record in sheet[20..20 + 12 * moves].chunks(12) {
+    let records = sheet[SHEET_HEADER_BYTES..].chunks(SHEET_RECORD_BYTES);
+    for record in records.take(moves) {
         print_move(map, record)?;
     }
     Ok(())
@@ -20,7 +22,7 @@ pub fn print_moves(map: &[u8], sheet: &[u8]) -> Result<(), trunk::Refused> {
 /// A record's word, number, the name of the junction reached, and clock.
 fn print_move(map: &[u8], record: &[u8]) -> Result<(), trunk::Refused> {
     let (kind, number, clock) = (word_at(record, 0), word_at(record, 4), word_at(record, 8));
-    let word = ["drive", "break", "rest", "first", "second"][kind as usize - 1];
+    let word = ["drive", "break", "rest", "first", "second", "weekly"][kind as usize - 1];
     let reached = match kind {
         trunk::DRIVE => end_of(map, number),
         _ => number,

@@ -18,7 +18,7 @@ fn map_with_a_detour() -> Vec<u8> {
 
 /// The European order from Hub to End, without a split.
 fn order() -> Vec<u8> {
-    bytes_of(&[1, 4, 0, 100_000, 0, 0, 16200, 2700, 32400, 39600, 0, 0])
+    european_order([1, 4], 100_000, [0, 0])
 }
 
 fn planned(labels: u64, arrival: u64) -> Result<Planned, Refused> {
@@ -56,7 +56,7 @@ fn a_refused_strike_changes_nothing() {
 #[test]
 fn previews_a_detour() {
     let (map, order) = (map_with_a_detour(), order());
-    let (mut words, mut sheet) = ([7; LABEL_WORDS * 6], vec![0xEE; 72]);
+    let (mut words, mut sheet) = ([7; LABEL_WORDS * 6], vec![0xEE; 76]);
     let open = plan(&map, &order, &mut words, &mut sheet);
     assert_eq!(open, planned(6, 20_700));
     sheet.fill(0xEE);
@@ -68,7 +68,7 @@ fn previews_a_detour() {
         [BREAK, 3, 18_000],
         [DRIVE, 4, 23_400],
     ];
-    let mut written = bytes_of(&[4, 23_400, 5_400, 20_700, 6]);
+    let mut written = bytes_of(&[4, 23_400, 5_400, 20_700, 20_700, 6]);
     written.extend(bytes_of(&records.concat()));
     written.extend([0xEE; 4]);
     assert_eq!(sheet, written);
@@ -79,13 +79,13 @@ fn previews_a_detour() {
 #[test]
 fn previews_closures_of_the_other_roads() {
     let (map, order) = (map_with_a_detour(), order());
-    let (mut words, mut sheet) = ([7; LABEL_WORDS * 6], [0xEE; 56]);
+    let (mut words, mut sheet) = ([7; LABEL_WORDS * 6], [0xEE; 60]);
     for (road, expected) in [
         (1, refused(Refusal::NoRoad, 1)),
-        (2, refused(Refusal::ShortSheet, 68)),
+        (2, refused(Refusal::ShortSheet, 72)),
     ] {
         let closed = preview(&map, &order, road, &mut words, &mut sheet);
-        assert_eq!((closed, sheet), (expected, [0xEE; 56]));
+        assert_eq!((closed, sheet), (expected, [0xEE; 60]));
     }
     for (road, labels) in [(3, 4), (4, 6)] {
         let closed = preview(&map, &order, road, &mut words, &mut sheet);
@@ -101,7 +101,7 @@ fn a_preview_is_planning_on_a_struck_copy() {
         let mut copy = map.clone();
         strike(&mut copy, road).unwrap();
         for labels in 0..=7 {
-            for bytes in [0, 55, 56, 67, 68, 80] {
+            for bytes in [0, 59, 60, 71, 72, 84] {
                 let (mut words, mut sheet) = (vec![7; LABEL_WORDS * labels], vec![0xEE; bytes]);
                 let answer = plan(&copy, &order, &mut words, &mut sheet);
                 let (mut words, mut other) = (vec![9; LABEL_WORDS * labels], vec![0xEE; bytes]);
@@ -118,7 +118,7 @@ fn a_preview_is_planning_on_a_struck_copy() {
 fn a_sheet_is_audited_on_the_struck_map() {
     let (map, order) = (map_with_a_detour(), order());
     let mut words = [7; LABEL_WORDS * 6];
-    let (mut open, mut closed) = ([0; 56], [0; 68]);
+    let (mut open, mut closed) = ([0; 60], [0; 72]);
     plan(&map, &order, &mut words, &mut open).unwrap();
     preview(&map, &order, 2, &mut words, &mut closed).unwrap();
     let [without_1, without_2] = [1, 2].map(|road| {
@@ -141,20 +141,20 @@ fn a_sheet_is_audited_on_the_struck_map() {
 #[test]
 fn an_unknown_road_is_refused_before_the_search() {
     let (map, order) = (map_with_a_detour(), order());
-    let (mut words, mut sheet) = ([7; LABEL_WORDS], [0xEE; 20]);
+    let (mut words, mut sheet) = ([7; LABEL_WORDS], [0xEE; 24]);
     for road in [0, ROADS + 1, u32::MAX] {
         let unknown = refused(Refusal::UnknownRoad, road.into());
         let closed = preview(&map, &order, road, &mut words, &mut sheet);
         assert_eq!(closed, unknown);
         assert_eq!(preview(&map, &order, road, &mut [], &mut []), unknown);
     }
-    let short = preview(&map, &order[..47], 0, &mut words, &mut sheet);
-    assert_eq!(short, refused(Refusal::BadOrder, 47));
+    let short = preview(&map, &order[..59], 0, &mut words, &mut sheet);
+    assert_eq!(short, refused(Refusal::BadOrder, 59));
     let mut bad_map = map.clone();
     bad_map[TO_OF_ROAD_2] = 5;
     let bad = preview(&bad_map, &order, 2, &mut words, &mut sheet);
     assert_eq!(bad, refused(Refusal::BadRoad, 2));
-    assert_eq!((words, sheet), ([7; LABEL_WORDS], [0xEE; 20]));
+    assert_eq!((words, sheet), ([7; LABEL_WORDS], [0xEE; 24]));
 }
 
 /// Nothing where the reply is short, three numbers where it is longer.
@@ -172,7 +172,7 @@ fn a_strike_needs_room_for_its_reply() {
 #[test]
 fn a_preview_needs_room_for_its_reply() {
     let (map, order) = (map_with_a_detour(), order());
-    let (mut words, mut sheet, mut reply) = ([7; LABEL_WORDS * 6], [0xEE; 68], [9; 4]);
+    let (mut words, mut sheet, mut reply) = ([7; LABEL_WORDS * 6], [0xEE; 72], [9; 4]);
     let mut previewed = |room: usize| {
         unsafe {
             raw::trunk_preview(
