@@ -25,8 +25,8 @@
  *
  * Stack, measured with the library of this version. In its machine code frames are fixed and nothing recurses, and no
  * path through it reserves a hundred bytes more, the C library's memset aside:
- *     trunk_plan and trunk_preview  153,625 bytes; leave TRUNK_PLAN_STACK_BYTES, 256 KiB
- *     every other function   at most 49,831 bytes; leave TRUNK_STACK_BYTES, 64 KiB
+ *     trunk_plan and trunk_preview  153,890 bytes; leave TRUNK_PLAN_STACK_BYTES, 256 KiB
+ *     every other function   at most 49,847 bytes; leave TRUNK_STACK_BYTES, 64 KiB
  * The main thread (8 MiB as a rule) and threads of glibc and Rust with their usual size have enough.
  */
 #ifndef TRUNK_H
