@@ -1,9 +1,9 @@
-// A planner over Boost.Graph's r_c_shortest_paths (label setting under resource constraints): clock, spell, shift and
-// mark are its resources, roads and pauses its edges. It trusts its files: bench/src/bin/boost.rs writes accepted ones.
+// A planner over Boost.Graph's r_c_shortest_paths (label setting under resource constraints): clock, spell, shift, week
+// and mark are its resources, roads and pauses its edges. It trusts its files: bench/src/bin/boost.rs writes accepted ones.
 //
 //   planner first|all RUNS SECONDS FOLDER...
 //
-// For each folder, whose files are `map` and `order`, it prints a line: `planned ARRIVAL SPELL SHIFT LABELS
+// For each folder, whose files are `map` and `order`, it prints a line: `planned ARRIVAL SPELL SHIFT WEEK LABELS
 // NANOSECONDS`, `none LABELS NANOSECONDS` or `late`. `all` is the search as it is: it ends when no label is left.
 // `first` stops it at the first label at target. The time is the best of RUNS, or of those that end within SECONDS.
 
@@ -29,7 +29,7 @@ using Word = std::uint32_t;
 using Bytes = std::vector<unsigned char>;
 using Time = std::chrono::steady_clock;
 
-enum Kind { DRIVE, BREAK, REST, FIRST, SECOND };
+enum Kind { DRIVE, BREAK, REST, FIRST, SECOND, WEEKLY };
 
 struct Move {
     std::size_t index;
@@ -40,19 +40,20 @@ struct Move {
 using Graph = boost::adjacency_list<boost::vecS, boost::vecS, boost::directedS, boost::no_property, Move>;
 using Edge = boost::graph_traits<Graph>::edge_descriptor;
 
-// Words 0 to 11, in their order.
+// Words 0 to 14, in their order.
 struct Order {
     Word source, target, departure, latest, spell, shift;
     Word spell_limit, break_time, shift_limit, rest_time, first_part, second_part;
+    Word week_limit, weekly_rest, week;
 };
 
 // The fields stand in the order of rank.
 struct State {
-    Word clock, spell, shift;
+    Word clock, spell, shift, week;
     Word unmarked; // 0 with the mark, which is the better one
     Word junction;
 
-    auto fields() const { return std::tie(clock, spell, shift, unmarked, junction); }
+    auto fields() const { return std::tie(clock, spell, shift, week, unmarked, junction); }
 };
 
 // The search takes labels in this order, and rank is the document's.
@@ -70,23 +71,26 @@ struct Extension {
         if (move.kind == DRIVE) {
             after.spell += move.seconds;
             after.shift += move.seconds;
+            after.week += move.seconds;
         } else {
             after.unmarked = move.kind == FIRST ? 0 : 1;
             after.spell = move.kind == FIRST ? before.spell : 0;
-            after.shift = move.kind == REST ? 0 : before.shift;
+            after.shift = move.kind == REST || move.kind == WEEKLY ? 0 : before.shift;
+            after.week = move.kind == WEEKLY ? 0 : before.week;
         }
         const bool is_offered = move.kind != SECOND || before.unmarked == 0;
         return is_offered && is_legal(after);
     }
 
     bool is_legal(const State& state) const {
-        return state.spell <= order.spell_limit && state.shift <= order.shift_limit && state.clock <= order.latest;
+        return state.spell <= order.spell_limit && state.shift <= order.shift_limit && state.week <= order.week_limit
+            && state.clock <= order.latest;
     }
 };
 
 // Or is equal: of two equal states the search drops one then, and would go on from both otherwise.
 bool dominates(const State& one, const State& other) {
-    return one.clock <= other.clock && one.spell <= other.spell && one.shift <= other.shift
+    return one.clock <= other.clock && one.spell <= other.spell && one.shift <= other.shift && one.week <= other.week
         && one.unmarked <= other.unmarked;
 }
 
@@ -134,7 +138,7 @@ Word word(const Bytes& bytes, std::size_t number) {
 
 Order read_order(const Bytes& bytes) {
     const auto at = [&bytes](std::size_t number) { return word(bytes, number); };
-    return {at(0), at(1), at(2), at(3), at(4), at(5), at(6), at(7), at(8), at(9), at(10), at(11)};
+    return {at(0), at(1), at(2), at(3), at(4), at(5), at(6), at(7), at(8), at(9), at(10), at(11), at(12), at(13), at(14)};
 }
 
 // To the nearest second, an exact half to the even one, and never below 1.
@@ -166,6 +170,7 @@ Graph read_graph(const Bytes& map, const Order& order) {
             add(junction, junction, FIRST, order.first_part);
             add(junction, junction, SECOND, order.second_part);
         }
+        add(junction, junction, WEEKLY, order.weekly_rest);
     }
     return graph;
 }
@@ -174,7 +179,7 @@ Graph read_graph(const Bytes& map, const Order& order) {
 std::vector<State> states_at_target(const Graph& graph, const Order& order, Progress& progress) {
     std::vector<std::vector<Edge>> paths;
     std::vector<State> states;
-    const State start{order.departure, order.spell, order.shift, 1, order.source};
+    const State start{order.departure, order.spell, order.shift, order.week, 1, order.source};
     boost::r_c_shortest_paths(graph, get(boost::vertex_index, graph), get(&Move::index, graph), order.source,
         order.target, paths, states, start, Extension{order}, dominates,
         boost::default_r_c_shortest_paths_allocator(), Visitor(progress));
@@ -223,7 +228,7 @@ void print(const std::optional<Search>& search) {
     if (least == search->states.end()) {
         std::cout << "none ";
     } else {
-        std::cout << "planned " << least->clock << ' ' << least->spell << ' ' << least->shift << ' ';
+        std::cout << "planned " << least->clock << ' ' << least->spell << ' ' << least->shift << ' ' << least->week << ' ';
     }
     std::cout << search->labels << ' ' << search->time.count() << '\n';
 }

@@ -43,8 +43,10 @@ fn widest_order(target: u64) -> Order {
     Order {
         spell_limit: LONGEST_RULE,
         shift_limit: LONGEST_RULE,
+        week_limit: LONGEST_RULE,
         break_time: 1,
         rest_time: 1,
+        weekly_rest: 1,
         latest: LATEST_CLOCK,
         ..european_order(target)
     }

@@ -49,9 +49,9 @@ pub fn uniform_grid(side: u64) -> NamedMap {
 
 /// A spine with a tooth at each junction, which ends in a car park and is longer than the tooth
 /// before. The lists of labels grow along the spine: a pause at a later tooth costs more time and
-/// leaves a lower spell or shift, so that no choice of the last break's tooth and of the last rest's
-/// dominates another while the limits allow both. The shorter the spine's roads, the more teeth are
-/// within the limits, and the longer the lists.
+/// leaves a lower spell, shift or week, so that no choice of the teeth of the last break, of the last
+/// rest and of the last weekly rest dominates another while the limits allow both. The shorter the
+/// spine's roads, the more teeth are within the limits, and the longer the lists.
 pub fn comb(teeth: u64, apart: u64, step: u64) -> NamedMap {
     let mut sketch = Sketch::default();
     for number in 1..=teeth {
@@ -66,9 +66,9 @@ pub fn comb(teeth: u64, apart: u64, step: u64) -> NamedMap {
     named(format!("comb {teeth}"), sketch.map())
 }
 
-/// Some hundred and fifty labels at a junction.
+/// Weeks of driving, and on 400 teeth up to 177 labels at a junction.
 pub fn usual_comb(teeth: u64) -> NamedMap {
-    comb(teeth, 20_000, 20)
+    comb(teeth, 80_000, 20)
 }
 
 /// As many labels at a junction as there are teeth, and more.

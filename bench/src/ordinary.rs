@@ -62,9 +62,9 @@ struct Label {
 pub struct Ordinary {
     waiting: BinaryHeap<Reverse<Label>>,
     settled: Vec<Label>,
-    /// Spell, shift and mark of the labels at each junction. Their clocks are never later than the
-    /// clock of a tentative label, since labels are settled in rank order.
-    settled_at: Vec<Vec<(u32, u32, Mark)>>,
+    /// Spell, shift, week and mark of the labels at each junction. Their clocks are never later than
+    /// the clock of a tentative label, since labels are settled in rank order.
+    settled_at: Vec<Vec<(u32, u32, u32, Mark)>>,
 }
 
 impl Ordinary {
@@ -99,14 +99,18 @@ impl Ordinary {
     fn is_covered(&self, state: &State) -> bool {
         self.settled_at[state.junction as usize]
             .iter()
-            .any(|&(spell, shift, mark)| {
-                spell <= state.spell && shift <= state.shift && mark <= state.mark
+            .any(|&(spell, shift, week, mark)| {
+                spell <= state.spell
+                    && shift <= state.shift
+                    && week <= state.week
+                    && mark <= state.mark
             })
     }
 
     fn settle(&mut self, label: Label) {
         let state = &label.state;
-        self.settled_at[state.junction as usize].push((state.spell, state.shift, state.mark));
+        let figures = (state.spell, state.shift, state.week, state.mark);
+        self.settled_at[state.junction as usize].push(figures);
         self.settled.push(label);
     }
 

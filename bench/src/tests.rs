@@ -7,7 +7,7 @@ use other::make::random::Random;
 use other::make::{case, Run};
 use other::map::road_time;
 use other::mapcheck::{check_map, MOST_JUNCTIONS};
-use other::moves::{Document, Trip as SmallTrip, FIRST, SECOND};
+use other::moves::{Document, Trip as SmallTrip, FIRST, SECOND, WEEKLY};
 use other::operations::DOCUMENT;
 use other::order::Order;
 use other::reply::Reply;
@@ -26,7 +26,7 @@ use crate::trip::Trip;
 use crate::trips::{european_order, european_split_order, NamedTrip, Targets};
 
 const SEED: u64 = 1;
-const CASES: u64 = 600;
+const CASES: u64 = 900;
 
 /// Both planners, so that their storage is used again from case to case.
 #[derive(Default)]
@@ -65,7 +65,8 @@ fn road_times_are_the_other_planners() {
 #[test]
 fn both_answer_as_the_other_planner() {
     let mut both = Both::default();
-    let (mut planned, mut split, mut without_road, mut most_labels) = (0, 0, 0, 0);
+    let (mut planned, mut split, mut weekly) = (0, 0, 0);
+    let (mut without_road, mut most_labels) = (0, 0);
     for number in 0..CASES {
         for run in case(SEED, number).runs() {
             let Ok(trip) = SmallTrip::open(&run.map, &run.order) else {
@@ -78,7 +79,8 @@ fn both_answer_as_the_other_planner() {
             match meant {
                 Answer::Planned(ref sheet) => {
                     planned += 1;
-                    split += u64::from(has_split(sheet));
+                    split += u64::from(has_a(sheet, &[FIRST, SECOND]));
+                    weekly += u64::from(has_a(sheet, &[WEEKLY]));
                 }
                 Answer::NoRoad(_) => without_road += 1,
             }
@@ -86,14 +88,16 @@ fn both_answer_as_the_other_planner() {
         }
     }
     println!(
-        "{planned} planned, {split} with a split break, {without_road} without a road, up to {most_labels} labels"
+        "{planned} planned, {split} with a split break, {weekly} with a weekly rest, {without_road} without a road, up to {most_labels} labels"
     );
-    assert!(planned > 300 && split > 10 && without_road > 50 && most_labels > 100);
+    assert!(planned > 300 && split > 10 && weekly > 10);
+    assert!(without_road > 50 && most_labels > 100);
 }
 
-fn has_split(sheet: &Sheet) -> bool {
-    let mut kinds = sheet.records.iter().map(|record| record.step.kind);
-    kinds.any(|kind| kind == FIRST || kind == SECOND)
+/// Whether one of the moves is of one of these kinds.
+fn has_a(sheet: &Sheet, kinds: &[u64]) -> bool {
+    let mut records = sheet.records.iter();
+    records.any(|record| kinds.contains(&record.step.kind))
 }
 
 /// Short pauses leave many labels at a junction.
@@ -106,15 +110,28 @@ fn both_agree_on_larger_maps() {
             let short_pauses = Order {
                 break_time: 600,
                 rest_time: 700,
-                ..european
+                ..european.clone()
             };
             let split = european_split_order(target);
             let short_parts = Order {
                 first_part: 300,
                 second_part: 400,
-                ..split
+                ..split.clone()
             };
-            for order in [european, short_pauses, split, short_parts] {
+            let short_weeks = Order {
+                week_limit: 32_400,
+                weekly_rest: 800,
+                ..short_pauses.clone()
+            };
+            let split_short_weeks = Order {
+                week: 30_000,
+                weekly_rest: 50_000,
+                week_limit: 40_000,
+                ..short_parts.clone()
+            };
+            let without_split = [european, short_pauses, short_weeks];
+            let with_split = [split, short_parts, split_short_weeks];
+            for order in without_split.into_iter().chain(with_split) {
                 let [one, two] = both.answers(&map.bytes, &order);
                 assert_eq!(one, two, "{}, {order:?}", map.name);
             }
@@ -142,6 +159,27 @@ fn targets_have_the_labels_that_a_search_takes() {
     assert!(labels(&trips[counts.len()]) >= labels(far));
 }
 
+/// From the middle trip on the driver cannot do without.
+#[test]
+fn trips_late_in_the_week_take_a_weekly_rest() {
+    let map = practice(1_024);
+    let [_, middle, far] = &Targets::of(&map.bytes).near_middle_far()[..] else {
+        panic!("near, middle and far");
+    };
+    for trip in [middle, far] {
+        let late = trip.late_in_the_week();
+        let takes_weekly_rest = |trip: &NamedTrip| {
+            let answers = Both::default().answers(&map.bytes, &trip.order);
+            answers.map(|answer| match answer {
+                Answer::Planned(sheet) => has_a(&sheet, &[WEEKLY]),
+                Answer::NoRoad(_) => panic!("{}", trip.name),
+            })
+        };
+        assert_eq!(takes_weekly_rest(trip), [false; 2]);
+        assert_eq!(takes_weekly_rest(&late), [true; 2]);
+    }
+}
+
 #[test]
 fn wandering_makes_true_sheets() {
     let map = practice(64);
@@ -158,7 +196,7 @@ fn maps_pass_the_check() {
     passes(grid(96));
     passes(uniform_grid(96));
     passes(dense_comb(350));
-    passes(usual_comb(1_600));
+    passes(usual_comb(400));
     for degree in [50, 200, 1_000] {
         passes(hubs(degree, 5_000));
     }
@@ -200,7 +238,7 @@ fn all_agree_on_combs_and_hubs() {
     let mut planners = Planners::default();
     for map in [dense_comb(60), hubs(12, 120), uniform_grid(16)] {
         for trip in Targets::of(&map.bytes).near_middle_far() {
-            for trip in [trip.with_split(), trip] {
+            for trip in [trip.with_split(), trip.late_in_the_week(), trip] {
                 assert!(planners.labels(&map, &trip).expect("one plan") > 0);
             }
         }

@@ -1,7 +1,7 @@
 //! What both planners know of an order: its figures, states, and what moves lead to.
 
 use other::mapcheck::MOST_ROADS;
-use other::moves::{Mark, Move, BREAK, DRIVE, FIRST, REST, SECOND};
+use other::moves::{Mark, Move, BREAK, DRIVE, FIRST, REST, SECOND, WEEKLY};
 use other::order::Order;
 use other::sheet::{Record, Sheet};
 
@@ -11,6 +11,7 @@ pub struct State {
     pub clock: u32,
     pub spell: u32,
     pub shift: u32,
+    pub week: u32,
     pub mark: Mark,
     pub junction: u32,
 }
@@ -22,6 +23,7 @@ pub const BREAK_STEP: Step = MOST_ROADS as Step + 1; // above every road's numbe
 pub const REST_STEP: Step = BREAK_STEP + 1;
 pub const FIRST_STEP: Step = REST_STEP + 1;
 pub const SECOND_STEP: Step = FIRST_STEP + 1;
+pub const WEEKLY_STEP: Step = SECOND_STEP + 1;
 
 /// An accepted order's figures.
 #[derive(Clone, Copy, Debug)]
@@ -36,6 +38,8 @@ pub struct Trip {
     /// Both 0 where there is no split.
     first_part: u32,
     second_part: u32,
+    week_limit: u32,
+    weekly_rest: u32,
 }
 
 impl Trip {
@@ -45,6 +49,7 @@ impl Trip {
                 clock: order.departure as u32,
                 spell: order.spell as u32,
                 shift: order.shift as u32,
+                week: order.week as u32,
                 mark: Mark::Unmarked,
                 junction: order.source as u32,
             },
@@ -56,6 +61,8 @@ impl Trip {
             rest_time: order.rest_time as u32,
             first_part: order.first_part as u32,
             second_part: order.second_part as u32,
+            week_limit: order.week_limit as u32,
+            weekly_rest: order.weekly_rest as u32,
         }
     }
 
@@ -64,6 +71,7 @@ impl Trip {
             clock: state.clock + time,
             spell: state.spell + time,
             shift: state.shift + time,
+            week: state.week + time,
             junction: to,
             ..*state
         }
@@ -82,15 +90,20 @@ impl Trip {
             spell: 0,
             ..later(seconds, Mark::Unmarked)
         };
-        let after_rest = State {
+        let rested = |seconds| State {
             shift: 0,
-            ..broken(self.rest_time)
+            ..broken(seconds)
+        };
+        let after_weekly_rest = State {
+            week: 0,
+            ..rested(self.weekly_rest)
         };
         let pauses = [
             (BREAK_STEP, broken(self.break_time), true),
-            (REST_STEP, after_rest, true),
+            (REST_STEP, rested(self.rest_time), true),
             (FIRST_STEP, later(self.first_part, Mark::Marked), is_split),
             (SECOND_STEP, broken(self.second_part), is_split && is_marked),
+            (WEEKLY_STEP, after_weekly_rest, true),
         ];
         let offered = pauses.into_iter().filter(|(_, _, is_offered)| *is_offered);
         offered.map(|(step, after, _)| (step, after))
@@ -100,6 +113,7 @@ impl Trip {
     pub fn allows(&self, after: &State) -> bool {
         after.spell <= self.spell_limit
             && after.shift <= self.shift_limit
+            && after.week <= self.week_limit
             && after.clock <= self.latest
     }
 }
@@ -111,6 +125,7 @@ pub fn record_of(step: Step, after: &State) -> Record {
         REST_STEP => (REST, after.junction),
         FIRST_STEP => (FIRST, after.junction),
         SECOND_STEP => (SECOND, after.junction),
+        WEEKLY_STEP => (WEEKLY, after.junction),
         road => (DRIVE, road),
     };
     Record {
@@ -128,6 +143,7 @@ pub fn sheet_ending_at(end: &State, labels: u64, records: Vec<Record>) -> Sheet 
         arrival: end.clock.into(),
         spell: end.spell.into(),
         shift: end.shift.into(),
+        week: end.week.into(),
         labels,
         records,
     }

@@ -1,4 +1,5 @@
-//! The trips that are timed: from junction 1 under the European figures, to targets chosen by N without a split.
+//! The trips that are timed: from junction 1 under the European figures, to targets chosen by N without a split, for a
+//! driver who comes from a weekly rest.
 
 use other::order::{Order, EUROPEAN_RULES, LATEST_CLOCK};
 
@@ -10,12 +11,26 @@ pub struct NamedTrip {
     pub order: Order,
 }
 
+/// What a driver late in the week may drive before a weekly rest.
+const LEFT_OF_THE_WEEK: u64 = 10_800;
+
 impl NamedTrip {
     /// The same trip with Europe's parts of a break.
     pub fn with_split(&self) -> NamedTrip {
         NamedTrip {
             name: self.name.clone(),
             order: european_split_order(self.order.target),
+        }
+    }
+
+    /// The same trip for a driver who comes from a rest and has driven nearly all of the week.
+    pub fn late_in_the_week(&self) -> NamedTrip {
+        NamedTrip {
+            name: self.name.clone(),
+            order: Order {
+                week: self.order.week_limit - LEFT_OF_THE_WEEK,
+                ..self.order.clone()
+            },
         }
     }
 }
@@ -34,7 +49,7 @@ pub fn european_split_order(target: u64) -> Order {
         source: 1,
         target,
         latest: LATEST_CLOCK,
-        ..Order::of_hours(EUROPEAN_RULES, [0, 0])
+        ..Order::of_hours(EUROPEAN_RULES, [0, 0, 0])
     }
 }
 

@@ -17,7 +17,7 @@ use bench::timing::ratio;
 use bench::trips::{NamedTrip, Targets};
 use other::make::{case, Run};
 use other::mapcheck::MOST_JUNCTIONS;
-use other::moves::Trip as SmallTrip;
+use other::moves::{Trip as SmallTrip, WEEKLY};
 use other::order::Order;
 
 const USAGE: &str = "boost PROGRAM FOLDER";
@@ -69,8 +69,8 @@ struct Searched {
 
 #[derive(Debug)]
 struct Found {
-    /// Arrival, spell and shift; none where there is no road.
-    end: Option<[u64; 3]>,
+    /// Arrival, spell, shift and week; none where there is no road.
+    end: Option<[u64; 4]>,
     labels: u64,
     time: Duration,
 }
@@ -128,8 +128,8 @@ fn read_line(line: &str) -> Result<Option<Found>, String> {
     let (end, labels, nanoseconds) = match (kind, &numbers[..]) {
         ("late", []) => return Ok(None),
         ("none", &[labels, nanoseconds]) => (None, labels, nanoseconds),
-        ("planned", &[arrival, spell, shift, labels, nanoseconds]) => {
-            (Some([arrival, spell, shift]), labels, nanoseconds)
+        ("planned", &[arrival, spell, shift, week, labels, nanoseconds]) => {
+            (Some([arrival, spell, shift, week]), labels, nanoseconds)
         }
         _ => return Err(strange()),
     };
@@ -140,10 +140,11 @@ fn read_line(line: &str) -> Result<Option<Found>, String> {
     }))
 }
 
-/// Refuses another arrival, spell or shift of either search, and another N of the one that stops where the library does.
+/// Refuses another arrival, spell, shift or week of either search, and another N of the one that stops where the library
+/// does.
 fn agree(answer: &Answer, searched: &Searched) -> Result<(), String> {
     let end = match answer {
-        Answer::Planned(sheet) => Some([sheet.arrival, sheet.spell, sheet.shift]),
+        Answer::Planned(sheet) => Some([sheet.arrival, sheet.spell, sheet.shift, sheet.week]),
         Answer::NoRoad(_) => None,
     };
     let labels = answer.labels();
@@ -161,18 +162,22 @@ fn agree(answer: &Answer, searched: &Searched) -> Result<(), String> {
 fn compare_small_trips(boost: &Boost, planners: &mut Planners) -> Result<(), String> {
     let trips = small_trips();
     let searches = boost.search(1, &trips)?;
-    let (mut planned, mut split) = (0, 0);
+    let (mut planned, mut weekly, mut split) = (0, 0, 0);
     for (number, (trip, searched)) in trips.iter().zip(&searches).enumerate() {
         let answer = planners.library_answer(&trip.map, &trip.order)?;
         if searched.first.is_none() || searched.all.is_none() {
             return Err(format!("small trip {number} takes Boost too long"));
         }
         agree(&answer, searched).map_err(|why| format!("small trip {number}: {why}"))?;
-        planned += u64::from(matches!(answer, Answer::Planned(_)));
+        if let Answer::Planned(sheet) = &answer {
+            let mut records = sheet.records.iter();
+            planned += 1;
+            weekly += u64::from(records.any(|record| record.step.kind == WEEKLY));
+        }
         split += u64::from(Order::read(&trip.order).has_split());
     }
     println!(
-        "{} small trips agree in arrival, spell, shift and N: {planned} have a plan, {split} an order with a split.\n",
+        "{} small trips agree in arrival, spell, shift, week and N: {planned} have a plan, {weekly} of them with a weekly rest, {split} an order with a split.\n",
         trips.len()
     );
     Ok(())

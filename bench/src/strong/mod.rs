@@ -1,6 +1,6 @@
 //! The strong planner: tentative labels are single numbers in a four-way heap, settled labels are
 //! records of 16 bytes in one run, and dominance is tested both when a tentative label enters the
-//! heap and when it leaves. Where no label of a junction has so low a spell, or so low a shift, the
+//! heap and when it leaves. Where no label of a junction has so low a spell, shift or week, the
 //! labels there are not looked at.
 
 mod graph;
@@ -15,13 +15,17 @@ use crate::answer::Answer;
 use crate::trip::{record_of, sheet_ending_at, State, Step, Trip};
 pub use graph::Graph;
 use heap::Heap;
-use key::Key;
-use settled::Settled;
+use key::{Key, MOST_ENTRIES};
+use settled::{Origin, Settled};
 
 /// The storage of a search, kept from call to call.
 #[derive(Default)]
 pub struct Strong {
     waiting: Heap,
+    /// Where each label comes from that entered the heap, in turn. Labels are settled by number and
+    /// their moves enter in order, so that of two with one state the first has the lowest parent,
+    /// then its lowest move.
+    entered: Vec<Origin>,
     settled: Settled,
 }
 
@@ -58,14 +62,15 @@ impl Strong {
         mut is_last: impl FnMut(&State, usize) -> bool,
     ) -> Option<State> {
         self.waiting.clear();
+        self.entered.clear();
         self.settled.clear(graph.numbers());
-        self.waiting.push(Key::new(&trip.start, 0, 0).0);
+        self.enter(&trip.start, Origin { parent: 0, step: 0 });
         while let Some(key) = self.waiting.pop().map(Key) {
             let state = key.state();
             if self.settled.covers(&state) {
                 continue;
             }
-            self.settled.add(&state, key.parent(), key.step());
+            self.settled.add(&state, self.entered[key.entry()]);
             if is_last(&state, self.settled.count()) {
                 return Some(state);
             }
@@ -90,8 +95,15 @@ impl Strong {
     fn push_legal(&mut self, trip: &Trip, step: Step, after: &State) {
         if trip.allows(after) && !self.settled.covers(after) {
             let parent = self.settled.count() as u32;
-            self.waiting.push(Key::new(after, parent, step).0);
+            self.enter(after, Origin { parent, step });
         }
+    }
+
+    fn enter(&mut self, state: &State, origin: Origin) {
+        let entry = self.entered.len();
+        assert!(entry < MOST_ENTRIES, "more labels wait than have a number");
+        self.entered.push(origin);
+        self.waiting.push(Key::new(state, entry).0);
     }
 
     /// The plan's records. Labels keep no clock, so that the steps are timed again.

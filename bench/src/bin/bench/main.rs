@@ -42,7 +42,7 @@ const WHOLE: Extent = Extent {
     comb_runs: 5,
     practice_sizes: &[256, 1_024, 4_096, MOST_JUNCTIONS],
     grid_sides: &[32, 64, 96],
-    comb_teeth: 1_600,
+    comb_teeth: 400,
     dense_comb_teeth: 350,
     hub_degrees: &[50, 200, 1_000],
     hub_leaves: 5_000,
@@ -55,7 +55,7 @@ const QUICK: Extent = Extent {
     comb_runs: 5,
     practice_sizes: &[256, 4_096],
     grid_sides: &[32],
-    comb_teeth: 200,
+    comb_teeth: 100,
     dense_comb_teeth: 100,
     hub_degrees: &[50],
     hub_leaves: 1_000,
@@ -124,17 +124,20 @@ fn report_planning(extent: &Extent, usual_maps: &[NamedMap]) -> Result<(), Strin
     Ok(())
 }
 
-/// Growth with N on two maps, the first also with a split, which has the more labels.
+/// Growth with N on two maps, the first also with a split, which has the more labels, and for a
+/// driver who needs a weekly rest on the way.
 fn report_growth(extent: &Extent, planning: &mut Planning) -> Result<(), String> {
     let counts = extent.label_counts;
     let map = practice(MOST_JUNCTIONS);
     let trips = Targets::of(&map.bytes).with_labels(counts);
     let split: Vec<NamedTrip> = trips.iter().map(NamedTrip::with_split).collect();
+    let late: Vec<NamedTrip> = trips.iter().map(NamedTrip::late_in_the_week).collect();
     let uniform = uniform_grid(96);
     let uniform_trips = Targets::of(&uniform.bytes).with_labels(counts);
     for (what, map, trips) in [
         ("Growth with N", &map, trips),
         ("The same trips with a split", &map, split),
+        ("The same trips late in the week", &map, late),
         ("Growth with N, uniform grid", &uniform, uniform_trips),
     ] {
         let trips = trips.into_iter().map(|trip| (map, trip));
