@@ -26,8 +26,9 @@ const PREVIEWS: usize = 2;
 
 /// A break takes as long as six roads; with a split, its parts take as long as two and four.
 const NO_SPLIT: RuleWords = {
-    let [spell_limit, break_time, shift_limit, rest_time, _, _] = EUROPEAN_RULES;
-    [spell_limit, break_time, shift_limit, rest_time, 0, 0]
+    let mut rules = EUROPEAN_RULES;
+    (rules[4], rules[5]) = (0, 0);
+    rules
 };
 
 /// The spell that leaves five roads before a break.
@@ -68,7 +69,7 @@ fn orders() -> Vec<Order> {
                 source: 1,
                 target: 1 + row * SIDE + column,
                 latest: MOST_ROADS_DRIVEN * ROAD_SECONDS,
-                ..Order::of_hours(rules, [driven, driven])
+                ..Order::of_hours(rules, [driven; 3])
             }));
         }
     }

@@ -167,7 +167,7 @@ fn two_parts_are_one(
     let first = replayed(one, replay.figures);
     let expected = match first.reply.number {
         0 => {
-            let figures = [0, 4, 8].map(|offset| word(&first.written, offset) as u32);
+            let figures = [0, 4, 8, 12].map(|offset| word(&first.written, offset) as u32);
             counted_on(replay, &first, replayed(next, figures))
         }
         _ => first,

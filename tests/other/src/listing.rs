@@ -1,6 +1,6 @@
 //! What the program `plan` prints, by document 01's "Trial trips".
 
-use crate::moves::{Document, Move, Trip, BREAK, DRIVE, FIRST, REST, SECOND};
+use crate::moves::{Document, Move, Trip, BREAK, DRIVE, FIRST, REST, SECOND, WEEKLY};
 use crate::planning::{plan, WORDS_OF_A_LABEL};
 use crate::sheet::{sheet_bytes, Record, Sheet};
 use crate::words::word;
@@ -46,6 +46,7 @@ fn move_line(trip: &Trip, record: &Record) -> String {
         REST => "rest",
         FIRST => "first",
         SECOND => "second",
+        WEEKLY => "weekly",
         _ => panic!("no word for kind {kind}"),
     };
     let reached = match kind {

@@ -10,6 +10,7 @@ pub const BREAK: u64 = 2;
 pub const REST: u64 = 3;
 pub const FIRST: u64 = 4;
 pub const SECOND: u64 = 5;
+pub const WEEKLY: u64 = 6;
 
 /// The mark that a first part sets. The better one stands first, for rank and for dominance.
 #[derive(Clone, Copy, Debug, PartialEq, Eq, PartialOrd, Ord)]
@@ -24,6 +25,7 @@ pub struct State {
     pub clock: u64,
     pub spell: u64,
     pub shift: u64,
+    pub week: u64,
     pub mark: Mark,
     pub junction: u64,
 }
@@ -36,6 +38,7 @@ impl State {
             && self.clock <= other.clock
             && self.spell <= other.spell
             && self.shift <= other.shift
+            && self.week <= other.week
             && self.mark <= other.mark
     }
 }
@@ -68,6 +71,7 @@ impl Trip {
             clock: self.order.departure,
             spell: self.order.spell,
             shift: self.order.shift,
+            week: self.order.week,
             mark: Mark::Unmarked,
             junction: self.order.source,
         }
@@ -110,6 +114,13 @@ impl Trip {
                 mark: Mark::Unmarked,
                 ..later(order.second_part)
             }),
+            WEEKLY => Some(State {
+                spell: 0,
+                shift: 0,
+                week: 0,
+                mark: Mark::Unmarked,
+                ..later(order.weekly_rest)
+            }),
             _ => None,
         }
     }
@@ -123,6 +134,7 @@ impl Trip {
             clock: state.clock + road.time(),
             spell: state.spell + road.time(),
             shift: state.shift + road.time(),
+            week: state.week + road.time(),
             junction: road.to,
             ..*state
         })
@@ -135,7 +147,7 @@ impl Trip {
     /// Every move that some state at a junction may be offered.
     fn moves_at(&self, junction: u64) -> impl Iterator<Item = Move> {
         let drives = (1..=self.map.roads.len() as u64).map(|number| (DRIVE, number));
-        let pauses = (BREAK..=SECOND).map(move |kind| (kind, junction));
+        let pauses = (BREAK..=WEEKLY).map(move |kind| (kind, junction));
         drives
             .chain(pauses)
             .map(|(kind, number)| Move { kind, number })
@@ -145,6 +157,7 @@ impl Trip {
     pub fn allows(&self, after: &State) -> bool {
         after.spell <= self.order.spell_limit
             && after.shift <= self.order.shift_limit
+            && after.week <= self.order.week_limit
             && after.clock <= self.order.latest
     }
 
@@ -157,16 +170,20 @@ impl Trip {
 
     pub fn legal_moves<O: Offer>(&self, state: &State) -> Vec<(Move, State)> {
         let mut moves = self.offered_moves::<O>(state);
-        moves.retain(|(_, after)| self.allows(after));
+        moves.retain(|(_, after)| O::allows(self, after));
         moves
     }
 }
 
-/// What planning, retiming and audit take a move to do. The default is the documents'; a wrong copy
-/// changes it.
+/// What planning, retiming and audit take a move to do, and which they take for legal. The defaults are
+/// the documents'; a wrong copy changes one of them.
 pub trait Offer: Sized {
     fn after(trip: &Trip, state: &State, step: Move) -> Option<State> {
         trip.after(state, step)
+    }
+
+    fn allows(trip: &Trip, after: &State) -> bool {
+        trip.allows(after)
     }
 }
 

@@ -19,11 +19,11 @@ pub type PreviewFunction = fn(&mut [u8], &[u8], u32, &mut [u32], &mut [u8]) -> R
 /// Takes map, order, sheet and the other sheet.
 pub type RetimeFunction = fn(&[u8], &[u8], &[u8], &mut [u8]) -> Reply;
 
-/// Words 6 to 11 of an order.
-pub type LentRules = [u32; 6];
+/// Words 6 to 13 of an order.
+pub type LentRules = [u32; 8];
 
-/// Words 4 and 5 of an order, and the mark: 1 with it, 0 without.
-pub type LentFigures = [u32; 3];
+/// Words 4, 5 and 14 of an order, and the mark: 1 with it, 0 without.
+pub type LentFigures = [u32; 4];
 
 /// Takes trace, rules and figures.
 pub type ReplayFunction = fn(&[u8], LentRules, &mut LentFigures) -> Reply;

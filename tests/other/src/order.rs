@@ -3,14 +3,15 @@
 use crate::reply::*;
 use crate::words::word;
 
-pub const ORDER_BYTES: usize = 48;
+pub const ORDER_BYTES: usize = 60;
 pub const LATEST_CLOCK: u64 = 2_000_000_000;
 pub const LONGEST_RULE: u64 = 1_000_000;
 
-/// Words 6 to 11: spell limit, break, shift limit, rest, first part and second part.
-pub type RuleWords = [u64; 6];
+/// Words 6 to 13: spell limit, break, shift limit, rest, first part, second part, week limit and
+/// weekly rest.
+pub type RuleWords = [u64; 8];
 
-pub const EUROPEAN_RULES: RuleWords = [16_200, 2_700, 32_400, 39_600, 900, 1_800];
+pub const EUROPEAN_RULES: RuleWords = [16_200, 2_700, 32_400, 39_600, 900, 1_800, 201_600, 162_000];
 
 #[derive(Clone, Debug, PartialEq, Eq)]
 pub struct Order {
@@ -26,10 +27,13 @@ pub struct Order {
     pub rest_time: u64,
     pub first_part: u64,
     pub second_part: u64,
+    pub week_limit: u64,
+    pub weekly_rest: u64,
+    pub week: u64,
 }
 
 impl Order {
-    /// The order that 48 bytes spell.
+    /// The order that 60 bytes spell.
     pub fn read(bytes: &[u8]) -> Order {
         let at = |number: usize| word(bytes, 4 * number);
         Order {
@@ -45,13 +49,17 @@ impl Order {
             rest_time: at(9),
             first_part: at(10),
             second_part: at(11),
+            week_limit: at(12),
+            weekly_rest: at(13),
+            week: at(14),
         }
     }
 
-    /// An order with these words 6 to 11, and 4 and 5. The others are 0, for want of a trip.
-    pub fn of_hours(rules: RuleWords, figures: [u64; 2]) -> Order {
-        let [spell_limit, break_time, shift_limit, rest_time, first_part, second_part] = rules;
-        let [spell, shift] = figures;
+    /// An order with these words 6 to 13, and 4, 5 and 14. The others are 0, for want of a trip.
+    pub fn of_hours(rules: RuleWords, figures: [u64; 3]) -> Order {
+        let [spell_limit, break_time, shift_limit, rest_time, parts_and_week @ ..] = rules;
+        let [first_part, second_part, week_limit, weekly_rest] = parts_and_week;
+        let [spell, shift, week] = figures;
         Order {
             source: 0,
             target: 0,
@@ -65,10 +73,13 @@ impl Order {
             rest_time,
             first_part,
             second_part,
+            week_limit,
+            weekly_rest,
+            week,
         }
     }
 
-    pub fn words(&self) -> [u64; 12] {
+    pub fn words(&self) -> [u64; 15] {
         [
             self.source,
             self.target,
@@ -82,6 +93,9 @@ impl Order {
             self.rest_time,
             self.first_part,
             self.second_part,
+            self.week_limit,
+            self.weekly_rest,
+            self.week,
         ]
     }
 
@@ -94,9 +108,9 @@ impl Order {
         self.first_part != 0
     }
 
-    /// Each rule on words 6 to 11: the word it is charged to, and whether it holds. A lone zero
+    /// Each rule on words 6 to 13: the word it is charged to, and whether it holds. A lone zero
     /// among the parts is charged itself.
-    pub fn rules(&self) -> [(u64, bool); 10] {
+    pub fn rules(&self) -> [(u64, bool); 14] {
         [
             (6, 1 <= self.spell_limit),
             (8, self.spell_limit <= self.shift_limit),
@@ -108,10 +122,14 @@ impl Order {
             (10, self.first_part != 0 || self.second_part == 0),
             (11, self.second_part <= self.break_time),
             (11, self.second_part != 0 || self.first_part == 0),
+            (12, self.shift_limit <= self.week_limit),
+            (12, self.week_limit <= LONGEST_RULE),
+            (13, self.rest_time <= self.weekly_rest),
+            (13, self.weekly_rest <= LONGEST_RULE),
         ]
     }
 
-    /// Each rule on words 0 to 5, likewise.
+    /// Each rule on words 0 to 5 and 14, likewise.
     pub fn trip(&self, junctions: u64) -> Vec<(u64, bool)> {
         let ends = [
             (0, (1..=junctions).contains(&self.source)),
@@ -122,12 +140,14 @@ impl Order {
         ends.into_iter().chain(self.figures()).collect()
     }
 
-    /// Those on words 4 and 5, the starting figures: one above its limit is charged itself.
-    pub fn figures(&self) -> [(u64, bool); 3] {
+    /// Those on words 4, 5 and 14, the starting figures: one above its limit is charged itself.
+    pub fn figures(&self) -> [(u64, bool); 5] {
         [
             (4, self.spell <= self.spell_limit),
             (5, self.spell <= self.shift),
             (5, self.shift <= self.shift_limit),
+            (14, self.shift <= self.week),
+            (14, self.week <= self.week_limit),
         ]
     }
 }

@@ -8,7 +8,7 @@ use crate::moves::{Document, Move, Offer, State, Trip};
 use crate::reply::*;
 use crate::sheet::{Record, Sheet};
 
-pub const WORDS_OF_A_LABEL: usize = 9;
+pub const WORDS_OF_A_LABEL: usize = 10;
 pub const MOST_LABELS: usize = 1_000_000;
 
 /// The rules of planning. The defaults are the documents'; a wrong copy changes one of them.

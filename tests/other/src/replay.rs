@@ -1,4 +1,4 @@
-//! Hours from the tachograph (document 02, P3 and P5): a trace replayed over the driver's figures.
+//! Hours from the tachograph (document 02, P3, P5 and P7): a trace replayed over the driver's figures.
 //! Refusals 10, 11 and 21 to 23.
 //!
 //! No figure is carried from record to record. Wherever one is asked for, the wheel time since the
@@ -45,7 +45,7 @@ impl TraceRecord {
     }
 }
 
-/// What a trace is replayed with: words 4 to 11 of an order, and the mark as lent.
+/// What a trace is replayed with: words 4 to 14 of an order, and the mark as lent.
 #[derive(Clone, Debug)]
 pub struct Hours {
     pub order: Order,
@@ -54,9 +54,9 @@ pub struct Hours {
 
 impl Hours {
     fn of(rules: LentRules, figures: LentFigures) -> Hours {
-        let [spell, shift, mark] = figures.map(u64::from);
+        let [spell, shift, week, mark] = figures.map(u64::from);
         Hours {
-            order: Order::of_hours(rules.map(u64::from), [spell, shift]),
+            order: Order::of_hours(rules.map(u64::from), [spell, shift, week]),
             marked: mark != 0,
         }
     }
@@ -77,6 +77,11 @@ pub trait Replayer: Sized {
     /// Whether it clears shift.
     fn clears_shift(pause: u64, order: &Order) -> bool {
         pause >= order.rest_time
+    }
+
+    /// Whether it clears the week.
+    fn clears_week(pause: u64, order: &Order) -> bool {
+        pause >= order.weekly_rest
     }
 
     /// The mark after a stretch with a whole pause of so many seconds, or with none.
@@ -122,22 +127,24 @@ fn replayed<R: Replayer>(
             return Err(Reply::refused(refusal, number as u64));
         }
     }
-    let [spell, shift] = figures_after::<R>(&records, &hours);
+    let [spell, shift, week] = figures_after::<R>(&records, &hours);
     let marked = is_marked_after::<R>(&records, &hours);
-    *figures = [spell, shift, u64::from(marked)].map(|figure| figure as u32);
+    *figures = [spell, shift, week, u64::from(marked)].map(|figure| figure as u32);
     Ok(Reply::success(records.len() as u64, 0))
 }
 
-/// Spell and shift after all of some records.
-pub fn figures_after<R: Replayer>(records: &[TraceRecord], hours: &Hours) -> [u64; 2] {
+/// Spell, shift and week after all of some records.
+pub fn figures_after<R: Replayer>(records: &[TraceRecord], hours: &Hours) -> [u64; 3] {
     let order = &hours.order;
     let clears_spell = |pause, before: &[TraceRecord]| {
         R::clears_spell(pause, is_marked_after::<R>(before, hours), order)
     };
     let clears_shift = |pause, _: &[TraceRecord]| R::clears_shift(pause, order);
+    let clears_week = |pause, _: &[TraceRecord]| R::clears_week(pause, order);
     [
         wheel_time::<R>(records, order.spell, clears_spell),
         wheel_time::<R>(records, order.shift, clears_shift),
+        wheel_time::<R>(records, order.week, clears_week),
     ]
 }
 
@@ -189,6 +196,11 @@ pub fn is_past_limit<R: Replayer>(records: &[TraceRecord], hours: &Hours) -> boo
     if records.last().is_none_or(|last| last.activity != DRIVING) {
         return false;
     }
-    let [spell, shift] = figures_after::<R>(records, hours);
-    spell > hours.order.spell_limit || shift > hours.order.shift_limit
+    let order = &hours.order;
+    let limits = [order.spell_limit, order.shift_limit, order.week_limit];
+    let figures = figures_after::<R>(records, hours);
+    figures
+        .iter()
+        .zip(limits)
+        .any(|(figure, limit)| *figure > limit)
 }

@@ -45,7 +45,8 @@ fn audited<O: Offer>(map: &[u8], order: &[u8], sheet: &[u8]) -> Result<Reply, Re
     };
     let states = walk::<O>(&trip, &given, compare_clock)?;
     let end = reached_target(&trip, &states)?;
-    if [given.arrival, given.spell, given.shift] != [end.clock, end.spell, end.shift] {
+    let given_figures = [given.arrival, given.spell, given.shift, given.week];
+    if given_figures != [end.clock, end.spell, end.shift, end.week] {
         let header = given.records.len() as u64 + 1;
         return Err(Reply::refused(FALSE_FIGURE, header));
     }
@@ -70,7 +71,7 @@ fn walk<O: Offer>(
     for (number, record) in (1..).zip(&given.records) {
         let foreign = Reply::refused(FOREIGN_MOVE, number);
         state = O::after(trip, &state, record.step).ok_or(foreign)?;
-        if !trip.allows(&state) {
+        if !O::allows(trip, &state) {
             return Err(Reply::refused(OVERRUN, number));
         }
         judge_clock(number, record, &state)?;

@@ -1,9 +1,9 @@
-//! The plan sheet: five header words, then three words for each move.
+//! The plan sheet: six header words, then three words for each move.
 
 use crate::moves::{Move, State};
 use crate::words::{put_word, word};
 
-pub const SHEET_HEADER_BYTES: usize = 20;
+pub const SHEET_HEADER_BYTES: usize = 24;
 pub const RECORD_BYTES: usize = 12;
 pub const MOST_MOVES: u64 = 999_999;
 
@@ -19,6 +19,7 @@ pub struct Sheet {
     pub arrival: u64,
     pub spell: u64,
     pub shift: u64,
+    pub week: u64,
     pub labels: u64,
     pub records: Vec<Record>,
 }
@@ -34,6 +35,7 @@ impl Sheet {
             arrival: end.clock,
             spell: end.spell,
             shift: end.shift,
+            week: end.week,
             labels,
             records,
         }
@@ -59,7 +61,8 @@ impl Sheet {
             arrival: word(bytes, 4),
             spell: word(bytes, 8),
             shift: word(bytes, 12),
-            labels: word(bytes, 16),
+            week: word(bytes, 16),
+            labels: word(bytes, 20),
             records: bytes[SHEET_HEADER_BYTES..]
                 .chunks_exact(RECORD_BYTES)
                 .map(record)
@@ -74,7 +77,8 @@ impl Sheet {
     /// Writes the header and the records; later bytes stay.
     pub fn write(&self, bytes: &mut [u8]) {
         let moves = self.records.len() as u64;
-        let header = [moves, self.arrival, self.spell, self.shift, self.labels];
+        let figures = [self.arrival, self.spell, self.shift, self.week];
+        let header = [&[moves], &figures[..], &[self.labels]].concat();
         let records = self
             .records
             .iter()

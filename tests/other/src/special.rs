@@ -151,7 +151,7 @@ fn european_order() -> Order {
         source: 1,
         target: 1,
         latest: LATEST_CLOCK,
-        ..Order::of_hours(EUROPEAN_RULES, [0, 0])
+        ..Order::of_hours(EUROPEAN_RULES, [0; 3])
     }
 }
 
@@ -216,6 +216,8 @@ fn patient_order() -> Order {
         rest_time: 1,
         first_part: 1,
         second_part: 1,
+        week_limit: 1_000_000,
+        weekly_rest: 1,
         ..european_order()
     }
 }
@@ -232,6 +234,7 @@ fn round_trips(moves: u64) -> Sheet {
         arrival: moves,
         spell: moves,
         shift: moves,
+        week: moves,
         labels: 1,
         records: (1..=moves).map(record).collect(),
     }
@@ -249,7 +252,7 @@ fn label_space_to_spare() -> Probe {
             order: order.bytes(),
         },
         labels: vec![0xA5A5_A5A5; WORDS_OF_A_LABEL * (MOST_LABELS + 1)],
-        sheet: vec![0xEE; 21],
+        sheet: vec![0xEE; 25],
     }
 }
 
@@ -273,10 +276,10 @@ fn trace_probes() -> [Probe; 4] {
     let mut last_too_long = long_trace();
     *last_too_long.last_mut().expect("a record") = (DRIVING, 1);
     [
-        european_replay(&[], [15, 20, 1]),
-        european_replay(&pause_of_two_to_the_32nd(), [16_200, 32_400, 1]),
-        european_replay(&long_trace(), [0, 0, 0]),
-        european_replay(&last_too_long, [0, 0, 0]),
+        european_replay(&[], [15, 20, 25, 1]),
+        european_replay(&pause_of_two_to_the_32nd(), [16_200, 32_400, 201_600, 1]),
+        european_replay(&long_trace(), [0; 4]),
+        european_replay(&last_too_long, [0; 4]),
     ]
 }
 
@@ -290,7 +293,7 @@ fn european_replay(records: &[(u64, u64)], figures: LentFigures) -> Probe {
     }
 }
 
-/// A sum that is 0 in 32 bits; the driver needs the rest for the driving behind it.
+/// A sum that is 0 in 32 bits; the driver needs the weekly rest for the driving behind it.
 fn pause_of_two_to_the_32nd() -> Vec<(u64, u64)> {
     let (whole, left) = ((1 << 32) / LONGEST_ACTIVITY, (1 << 32) % LONGEST_ACTIVITY);
     let mut records = vec![(PAUSE, LONGEST_ACTIVITY); whole as usize];
@@ -298,7 +301,7 @@ fn pause_of_two_to_the_32nd() -> Vec<(u64, u64)> {
     records
 }
 
-/// Days that just keep the European rules: every limit, break, part and rest is met exactly.
+/// Weeks that just keep the European rules: every limit, break, part and rest is met exactly.
 fn long_trace() -> Vec<(u64, u64)> {
     let day_with_a_break = [
         (OTHER_WORK, 1_800),
@@ -320,7 +323,9 @@ fn long_trace() -> Vec<(u64, u64)> {
         (PAUSE, 19_800),
         (PAUSE, 19_800),
     ];
-    [day_with_a_break, day_with_a_split].concat().repeat(12_500)
+    let six_days = [day_with_a_break, day_with_a_split].concat().repeat(3);
+    let end_of_the_week = [(DRIVING, 7_200), (PAUSE, 81_000), (PAUSE, 81_000)];
+    [&six_days[..], &end_of_the_week].concat().repeat(4_000)
 }
 
 /// The largest practice map, with so near a latest that few states are reachable.

@@ -7,7 +7,7 @@ use crate::case_probes::{ample_plan, label_count, probes};
 use crate::compare::marks;
 use crate::make::random::Random;
 use crate::make::{case, Run};
-use crate::moves::{DRIVE, SECOND};
+use crate::moves::{DRIVE, WEEKLY};
 use crate::operations::{LentRules, DOCUMENT};
 use crate::probe::{answer, Answer, Probe};
 use crate::reply::UNKNOWN_ROAD;
@@ -70,13 +70,15 @@ impl Summary {
     }
 
     fn add_figures(&mut self, rules: LentRules, seen: &Answer) {
-        let [spell_limit, _, shift_limit, ..] = rules.map(u64::from);
-        let [spell, shift, mark] = [0, 4, 8].map(|offset| word(&seen.written, offset));
+        let [spell_limit, _, shift_limit, .., week_limit, _] = rules.map(u64::from);
+        let [spell, shift, week, mark] = [0, 4, 8, 12].map(|offset| word(&seen.written, offset));
         for (name, is_so) in [
             ("spell at its limit", spell == spell_limit),
             ("shift at its limit", shift == shift_limit),
             ("spell alone 0", spell == 0 && shift > 0),
-            ("both 0", shift == 0),
+            ("spell and shift 0", shift == 0 && week > 0),
+            ("all 0", week == 0),
+            ("week at its limit", week == week_limit),
             ("the mark", mark != 0),
         ] {
             *self.figures.entry(name).or_default() += u64::from(is_so);
@@ -99,7 +101,7 @@ impl Summary {
             .expect("a plan")
             .records;
         *self.lengths.entry(records.len()).or_default() += 1;
-        for kind in DRIVE..=SECOND {
+        for kind in DRIVE..=WEEKLY {
             if records.iter().any(|record| record.step.kind == kind) {
                 *self.kinds.entry(kind).or_default() += 1;
             }

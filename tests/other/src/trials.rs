@@ -79,14 +79,14 @@ fn planned(
     format!("{} {}{stayed}", line(reply), hexadecimal(&lent))
 }
 
-/// The reply, and the figures afterwards, the mark last. The hours are words 4 to 11 of an order.
+/// The reply, and the figures afterwards, the mark last. The hours are words 4 to 14 of an order.
 fn replayed(hours: &[u8], mark: u32, trace: &[u8]) -> String {
-    let words = [0, 4, 8, 12, 16, 20, 24, 28].map(|offset| word(hours, offset) as u32);
-    let [spell, shift, rules @ ..] = words;
-    let mut figures = [spell, shift, mark];
+    let words = std::array::from_fn(|index| word(hours, 4 * index) as u32);
+    let [spell, shift, rules @ .., week]: [u32; 11] = words;
+    let mut figures = [spell, shift, week, mark];
     let reply = (DOCUMENT.replay)(trace, rules, &mut figures);
-    let [spell, shift, mark] = figures;
-    format!("{} {spell} {shift} {mark}", line(reply))
+    let [spell, shift, week, mark] = figures;
+    format!("{} {spell} {shift} {week} {mark}", line(reply))
 }
 
 fn take<'a>(stored: &mut &'a [u8], length: usize) -> &'a [u8] {

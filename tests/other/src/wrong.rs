@@ -1,6 +1,7 @@
 //! Deliberately wrong copies: `compare` must find each.
 
 mod closures;
+mod shared;
 mod splits;
 
 use crate::chains::make_chains;
@@ -218,7 +219,8 @@ struct CountWithoutJunction;
 
 impl Planner for CountWithoutJunction {
     fn counts(state: &State, answer: &State) -> bool {
-        (state.clock, state.spell, state.shift) <= (answer.clock, answer.spell, answer.shift)
+        let key = |s: &State| (s.clock, s.spell, s.shift, s.week, s.mark);
+        key(state) <= key(answer)
     }
 }
 
@@ -271,6 +273,7 @@ fn after_timed(trip: &Trip, state: &State, step: Move, time: fn(&Road) -> u64) -
         after.clock = state.clock + seconds;
         after.spell = state.spell + seconds;
         after.shift = state.shift + seconds;
+        after.week = state.week + seconds;
     }
     Some(after)
 }
@@ -365,7 +368,7 @@ fn invented_count(map: &[u8], order: &[u8], labels: &mut [u32], sheet: &mut [u8]
     let mut reply = right_plan(map, order, labels, sheet);
     if reply.number == 0 {
         reply.place = labels_that_fit(labels.len()) as u64;
-        put_word(sheet, 16, reply.place);
+        put_word(sheet, 20, reply.place);
     }
     reply
 }

@@ -121,27 +121,46 @@ fn last_or_above(random: &mut Random, last: u64) -> u64 {
 pub fn damaged_order(random: &mut Random, sound: &[u8]) -> Vec<u8> {
     let mut bytes = sound.to_vec();
     for _ in 0..random.pick(&[0, 1, 1, 1, 2, 3]) {
-        let number = random.index(ORDER_WORDS);
+        let any = random.index(ORDER_WORDS);
+        let of_the_week = random.pick(&[12, 13, 14]);
+        let number = random.pick(&[any, any, of_the_week]);
         damage_order_word(random, &mut bytes, number);
     }
     if random.one_in(6) {
-        bytes.resize(random.pick(&[0, 4, 40, 44, 47, 49, 52, 60, 96]), 0);
+        bytes.resize(random.pick(&[0, 4, 40, 48, 56, 59, 61, 64, 120]), 0);
     }
     bytes
 }
 
+fn below(figure: u64) -> u64 {
+    figure.saturating_sub(1)
+}
+
+fn above(figure: u64) -> u64 {
+    (figure + 1).min(ALL_BITS)
+}
+
 /// Replaces a word of an order by one that its own rules ask about, or by one near another word.
 pub fn damage_order_word(random: &mut Random, bytes: &mut [u8], number: usize) {
-    let break_time = word(bytes, 4 * 7);
+    let [shift, break_time, shift_limit, rest_time, week_limit] =
+        [5, 7, 8, 9, 12].map(|other| word(bytes, 4 * other));
     let figure = match number {
         0 | 1 => random.pick(&[0, 1, 8, 9, ALL_BITS]),
         2 | 3 => random.pick(&[0, LATEST_CLOCK, LATEST_CLOCK + 1, ALL_BITS]),
         4 | 5 => random.pick(&[0, 1, ALL_BITS]),
-        10 | 11 => random.pick(&[0, 0, 1, break_time, (break_time + 1).min(ALL_BITS)]),
+        10 | 11 => random.pick(&[0, 0, 1, break_time, above(break_time)]),
+        12 => random.pick(&[
+            shift_limit,
+            below(shift_limit),
+            LONGEST_RULE,
+            LONGEST_RULE + 1,
+        ]),
+        13 => random.pick(&[rest_time, below(rest_time), LONGEST_RULE, LONGEST_RULE + 1]),
+        14 => random.pick(&[shift, below(shift), week_limit, above(week_limit)]),
         _ => random.pick(&[0, 1, LONGEST_RULE, LONGEST_RULE + 1, ALL_BITS]),
     };
     let other = word(bytes, 4 * random.index(ORDER_WORDS));
-    let beside = random.pick(&[other.saturating_sub(1), other, (other + 1).min(ALL_BITS)]);
+    let beside = random.pick(&[below(other), other, above(other)]);
     let value = random.pick(&[figure, beside]);
     put_word(bytes, 4 * number, value);
 }

@@ -11,6 +11,7 @@ pub mod sheets;
 pub mod sketch;
 pub mod ties;
 pub mod traces;
+pub mod weeks;
 
 use crate::moves::{Document, Trip};
 use crate::planning::{answer_of, labels_of, reachable_states};
@@ -99,8 +100,10 @@ fn random_trip(random: &mut Random) -> Trip {
 }
 
 fn draw_trip(random: &mut Random) -> Trip {
-    if random.one_in(50) {
-        return ties::tied_trip(random);
+    match random.below(100) {
+        0..=2 => return ties::tied_trip(random),
+        3 => return weeks::week_trip(random),
+        _ => {}
     }
     let map = maps::random_map(random);
     let order = orders::random_order(random, &map);

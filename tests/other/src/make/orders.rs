@@ -29,9 +29,10 @@ pub fn random_order(random: &mut Random, map: &Map) -> Order {
 /// An order with accepted rules and figures, measured by this unit; it has no trip.
 pub fn random_hours(random: &mut Random, unit: u64) -> Order {
     let rules = random_rules(random, unit);
-    let [spell_limit, _, shift_limit, ..] = rules;
+    let [spell_limit, _, shift_limit, .., week_limit, _] = rules;
     let (spell, shift) = random_figures(random, spell_limit, shift_limit);
-    Order::of_hours(rules, [spell, shift])
+    let week = random_week(random, unit, shift, week_limit);
+    Order::of_hours(rules, [spell, shift, week])
 }
 
 /// Often the two ends of the line that many maps have.
@@ -53,23 +54,28 @@ fn random_unit(random: &mut Random, map: &Map) -> u64 {
     random.pick(&[any, longest]).min(LONGEST_RULE / 3)
 }
 
-/// Words 6 to 11.
+/// Words 6 to 13.
 fn random_rules(random: &mut Random, unit: u64) -> RuleWords {
     if random.one_in(10) {
         return EUROPEAN_RULES;
     }
     let limits = random_limits(random, unit);
-    let [_, break_time, ..] = limits;
-    let mut rules = [0; 6];
-    rules[..4].copy_from_slice(&limits);
-    rules[4..].copy_from_slice(&random_parts(random, break_time));
-    rules
+    let [_, break_time, shift_limit, rest_time] = limits;
+    let parts = random_parts(random, break_time);
+    let week = random_week_rules(random, unit, shift_limit, rest_time);
+    rules_of(limits, parts, week)
+}
+
+/// Words 6 to 9, 10 and 11, and 12 and 13, as one.
+pub fn rules_of(limits: [u64; 4], parts: [u64; 2], week: [u64; 2]) -> RuleWords {
+    let words = [&limits[..], &parts, &week].concat();
+    words.try_into().expect("eight words")
 }
 
 /// Words 6 to 9.
 fn random_limits(random: &mut Random, unit: u64) -> [u64; 4] {
     if random.one_in(10) {
-        let [limits @ .., _, _] = EUROPEAN_RULES;
+        let [limits @ .., _, _, _, _] = EUROPEAN_RULES;
         return limits;
     }
     let limited = |value: u64| value.clamp(1, LONGEST_RULE);
@@ -101,6 +107,33 @@ pub fn random_parts(random: &mut Random, break_time: u64) -> [u64; 2] {
         6..=9 => [part(third), part(third)],
         10 => random.pick(&[[part(third), any], [any, part(third)]]),
         _ => random.pick(&[[any, break_time], [break_time, any], [break_time; 2]]),
+    }
+}
+
+/// Words 12 and 13. The week limit is often near the shift limit, so that plans have weekly rests, and
+/// sometimes never met; the weekly rest is often hardly longer than the rest, and sometimes so long
+/// that no trip has time for it.
+fn random_week_rules(random: &mut Random, unit: u64, shift_limit: u64, rest_time: u64) -> [u64; 2] {
+    let limited = |value: u64| value.min(LONGEST_RULE);
+    let units = random.pick(&[0, 0, 1, 1, 2, 3, 6]);
+    let close = limited(shift_limit + near(random, unit * units));
+    let longer = random.pick(&[0, 1, unit / 2, unit, unit, 3 * unit]);
+    let short = limited(rest_time + near(random, longer));
+    match random.below(6) {
+        0..=1 => [LONGEST_RULE, LONGEST_RULE],
+        2 => [close, LONGEST_RULE],
+        _ => [close, short],
+    }
+}
+
+/// Word 14: often so near its limit that a road or two are left, or none.
+fn random_week(random: &mut Random, unit: u64, shift: u64, week_limit: u64) -> u64 {
+    let units = random.pick(&[0, 1, 1, 2, 2, 3]);
+    let left = near(random, unit * units);
+    match random.below(6) {
+        0..=2 => shift,
+        3..=4 => week_limit.saturating_sub(left).max(shift),
+        _ => random.between(shift, week_limit),
     }
 }
 

@@ -55,15 +55,21 @@ fn easier_order(random: &mut Random, order: &Order) -> Order {
     let spell = lowered(random, order.spell);
     let shift = lowered(random, order.shift).max(spell);
     let [first_part, second_part] = easier_parts(random, order, break_time);
+    let week_limit = raised(random, order.week_limit).max(shift_limit);
+    let weekly_rest = lowered(random, order.weekly_rest).max(rest_time);
+    let week = lowered(random, order.week).max(shift);
     Order {
         spell,
         shift,
+        week,
         spell_limit,
         break_time,
         shift_limit,
         rest_time,
         first_part,
         second_part,
+        week_limit,
+        weekly_rest,
         ..*order
     }
 }

@@ -1,7 +1,7 @@
 //! Sheets to retime and audit: true ones made by wandering, and spoilt ones for refusals 15 to 19.
 
 use super::random::Random;
-use crate::moves::{Document, Move, State, Trip, BREAK, FIRST, REST, SECOND};
+use crate::moves::{Document, Move, State, Trip, BREAK, FIRST, REST, SECOND, WEEKLY};
 use crate::order::{Order, LATEST_CLOCK};
 use crate::sheet::{Record, Sheet, RECORD_BYTES, SHEET_HEADER_BYTES};
 use crate::words::{put_word, word};
@@ -33,7 +33,7 @@ fn with_time_to_pause(random: &mut Random, trip: &Trip) -> Trip {
     let mut patient = trip.clone();
     let order = &mut patient.order;
     if random.one_in(2) {
-        let more = 4 * order.rest_time + 4 * order.spell_limit;
+        let more = 4 * order.rest_time + 2 * order.weekly_rest + 4 * order.spell_limit;
         order.latest = (order.latest + more).min(LATEST_CLOCK);
     }
     patient
@@ -44,14 +44,19 @@ fn with_time_to_pause(random: &mut Random, trip: &Trip) -> Trip {
 fn wander(random: &mut Random, trip: &Trip) -> (Vec<Move>, Vec<State>) {
     let mut states = vec![trip.start()];
     let mut steps = Vec::new();
+    let mut pauses = Vec::new();
     for _ in 0..random.between(0, 7) {
         let here = states[states.len() - 1];
         let mut moves = trip.legal_moves::<Document>(&here);
         if moves.is_empty() || random.one_in(12) {
             moves = trip.offered_moves::<Document>(&here);
         }
-        if random.one_in(3) {
-            let step = any_pause(random, &here);
+        if pauses.is_empty() && random.one_in(3) {
+            pauses = any_pauses(random);
+        }
+        if let Some(kind) = pauses.pop() {
+            let number = here.junction;
+            let step = Move { kind, number };
             moves = vec![(step, trip.after(&here, step).unwrap_or(here))];
         }
         if moves.is_empty() {
@@ -64,12 +69,14 @@ fn wander(random: &mut Random, trip: &Trip) -> (Vec<Move>, Vec<State>) {
     (steps, states)
 }
 
-/// A pause of any kind, offered or not.
-fn any_pause(random: &mut Random, here: &State) -> Move {
-    Move {
-        kind: random.pick(&[BREAK, REST, FIRST, FIRST, SECOND, SECOND]),
-        number: here.junction,
+/// Kinds of pauses, the last one first, offered or not: mostly one, sometimes another pause between the
+/// parts of a split, which then has cleared the mark.
+fn any_pauses(random: &mut Random) -> Vec<u64> {
+    let between = random.pick(&[BREAK, REST, WEEKLY]);
+    if random.one_in(8) {
+        return vec![SECOND, between, FIRST];
     }
+    vec![random.pick(&[BREAK, REST, FIRST, FIRST, SECOND, SECOND, WEEKLY])]
 }
 
 fn true_sheet(random: &mut Random, steps: &[Move], states: &[State]) -> Sheet {
@@ -91,14 +98,22 @@ fn fitted_order(random: &mut Random, order: &Order, states: &[State]) -> Order {
     }
     let missed_by = random.below(2);
     let highest = |figure: fn(&State) -> u64| states.iter().map(figure).max().expect("the start");
-    match random.below(9) {
+    match random.below(10) {
         0 => fitted.latest = highest(|s| s.clock).saturating_sub(missed_by),
         1 => fitted.spell_limit = highest(|s| s.spell).saturating_sub(missed_by),
         2 => fitted.shift_limit = highest(|s| s.shift).saturating_sub(missed_by),
-        3 => [fitted.first_part, fitted.second_part] = [0, 0],
+        3 => limit_week(&mut fitted, highest(|s| s.week).saturating_sub(missed_by)),
+        4 => [fitted.first_part, fitted.second_part] = [0, 0],
         _ => {}
     }
     fitted
+}
+
+/// The other limits are not above it.
+fn limit_week(order: &mut Order, limit: u64) {
+    order.week_limit = limit;
+    order.shift_limit = order.shift_limit.min(limit);
+    order.spell_limit = order.spell_limit.min(limit);
 }
 
 fn damage_sheet(random: &mut Random, sheet: &mut Vec<u8>, roads: u64) {
@@ -122,11 +137,21 @@ fn damage_sheet(random: &mut Random, sheet: &mut Vec<u8>, roads: u64) {
 fn damage_length(random: &mut Random, sheet: &mut Vec<u8>) {
     let length = sheet.len() as u64;
     let shorter = random.between(0, length);
-    let changed = random.pick(&[0, 19, 20, length - 1, length + 1, length + 12, shorter]);
+    let changed = random.pick(&[
+        0,
+        20,
+        23,
+        24,
+        length - 4,
+        length - 1,
+        length + 1,
+        length + 12,
+        shorter,
+    ]);
     sheet.resize(changed as usize, 0);
 }
 
-/// Counts whose 20 + 12M wraps to the sheet's length in 32 bits are among them.
+/// Counts whose 24 + 12M wraps to the sheet's length in 32 bits are among them.
 fn damage_count(random: &mut Random, sheet: &mut [u8]) {
     let moves = word(sheet, 0) & 0xFFFF;
     let wrapping = moves + (random.between(1, 3) << 30);
@@ -136,12 +161,12 @@ fn damage_count(random: &mut Random, sheet: &mut [u8]) {
 }
 
 fn damage_figure(random: &mut Random, sheet: &mut [u8]) {
-    let at = random.pick(&[4, 8, 12, 16]);
+    let at = random.pick(&[4, 8, 12, 16, 16, 20]);
     put_word(sheet, at, beside(random, word(sheet, at)));
 }
 
 fn damage_record(random: &mut Random, record: &mut [u8], roads: u64) {
-    let kind = random.pick(&[0, 1, 2, 3, 4, 5, 5, 6, 257, ALL_BITS]);
+    let kind = random.pick(&[0, 1, 2, 3, 4, 5, 5, 6, 6, 7, 257, ALL_BITS]);
     let road = random.between(0, roads + 1);
     let number = random.pick(&[0, road, road, roads + 1, ALL_BITS]);
     match random.below(4) {

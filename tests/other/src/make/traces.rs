@@ -55,14 +55,14 @@ pub fn random_replay(random: &mut Random) -> Replay {
     }
     let mut words = hours.order.bytes();
     for _ in 0..random.pick(&[0, 0, 0, 0, 0, 0, 1, 2]) {
-        let number = 4 + random.index(8);
+        let number = 4 + random.index(11);
         damage_order_word(random, &mut words, number);
     }
     let word = |number: usize| word(&words, 4 * number) as u32;
     Replay {
         trace,
-        rules: [6, 7, 8, 9, 10, 11].map(word),
-        figures: [word(4), word(5), u32::from(hours.marked)],
+        rules: [6, 7, 8, 9, 10, 11, 12, 13].map(word),
+        figures: [word(4), word(5), word(14), u32::from(hours.marked)],
     }
 }
 
@@ -82,9 +82,11 @@ fn random_records(random: &mut Random, hours: &Hours) -> Vec<TraceRecord> {
 /// allowed.
 fn add_driving(random: &mut Random, hours: &Hours, records: &mut Vec<TraceRecord>) {
     let order = &hours.order;
-    let [spell, shift] = figures_after::<Document>(records, hours);
-    let left = order.spell_limit.saturating_sub(spell);
-    let allowed = left.min(order.shift_limit.saturating_sub(shift));
+    let limits = [order.spell_limit, order.shift_limit, order.week_limit];
+    let figures = figures_after::<Document>(records, hours);
+    let left = |(limit, figure): (u64, u64)| limit.saturating_sub(figure);
+    let allowed = limits.into_iter().zip(figures).map(left).min();
+    let allowed = allowed.expect("three limits");
     let any = random.between(1, allowed.max(1));
     let seconds = match random.below(24) {
         0 => allowed + 1,
@@ -103,14 +105,14 @@ fn other_work(random: &mut Random) -> TraceRecord {
     record(OTHER_WORK, seconds)
 }
 
-/// A pause about as long as a break, a rest or a part of a split, whole or cut up: neighbours, which
+/// A pause about as long as a break, a rest of either kind or a part of a split, whole or cut up: neighbours, which
 /// make one pause, or with other work between them, which makes several.
 fn add_pauses(random: &mut Random, order: &Order, records: &mut Vec<TraceRecord>) {
-    let (break_time, rest_time) = (order.break_time, order.rest_time);
-    let needed = match [order.first_part, order.second_part] {
-        [0, 0] => random.pick(&[break_time, rest_time]),
-        [first, second] => random.pick(&[first, first, second, second, break_time, rest_time]),
-    };
+    let mut lengths = vec![order.break_time, order.rest_time, order.weekly_rest];
+    if order.has_split() {
+        lengths.extend([order.first_part, order.second_part].repeat(3));
+    }
+    let needed = random.pick(&lengths);
     let shorter = random.between(1, needed);
     let length = random.pick(&[shorter, needed - 1, needed, needed, needed + 1]);
     let pieces = random.pick(&[1, 1, 2, 2, 3]);
@@ -162,7 +164,7 @@ fn damage_record(random: &mut Random, records: &mut [TraceRecord], order: &Order
             damaged.seconds = random.pick(&[0, LONGEST_ACTIVITY + 1, ALL_BITS]);
         }
         _ => {
-            let limit = random.pick(&[order.spell_limit, order.shift_limit]);
+            let limit = random.pick(&[order.spell_limit, order.shift_limit, order.week_limit]);
             *damaged = record(DRIVING, limit + 1);
         }
     }

@@ -80,7 +80,7 @@ fn expect_preview(
 ) {
     let (reply, sheet) = preview(map, order, road);
     assert_eq!(reply, Reply::success(labels, arrival));
-    let written = Sheet::read(&sheet[..20 + 12 * rows.len()]).expect("a plan");
+    let written = Sheet::read(&sheet[..24 + 12 * rows.len()]).expect("a plan");
     assert_eq!((written.labels, written.arrival), (labels, arrival));
     assert_eq!(written.records, records(rows));
     assert!(sheet[written.length()..].iter().all(|byte| *byte == MARK));
@@ -142,15 +142,15 @@ pub fn full_and_short_by_the_struck_trip() {
     let order = small_order(1, 3).bytes();
     let unwritten = |bytes| vec![MARK; bytes];
     assert_eq!(
-        previewed(&map, &order, 1, 26, 44),
-        (refused(12, 2), unwritten(44))
+        previewed(&map, &order, 1, 29, 48),
+        (refused(12, 2), unwritten(48))
     );
     assert_eq!(
-        previewed(&map, &order, 1, 27, 43),
-        (refused(14, 44), unwritten(43))
+        previewed(&map, &order, 1, 30, 47),
+        (refused(14, 48), unwritten(47))
     );
-    assert_eq!(previewed(&map, &order, 1, 27, 44).0, Reply::success(3, 7));
-    assert_eq!(previewed(&map, &order, 2, 18, 32).0, Reply::success(2, 2));
+    assert_eq!(previewed(&map, &order, 1, 30, 48).0, Reply::success(3, 7));
+    assert_eq!(previewed(&map, &order, 2, 20, 36).0, Reply::success(2, 2));
 }
 
 /// 1 to 11 of the lent map and order, 24, and 12 to 14 of the struck trip.
@@ -163,17 +163,17 @@ pub fn order_of_refusals() {
         reply(&with_word(&map, 129, 0), &order, 4, 0),
         refused(8, 129)
     );
-    assert_eq!(reply(&map, &order[..47], 4, 0), refused(9, 47));
+    assert_eq!(reply(&map, &order[..59], 4, 0), refused(9, 59));
     assert_eq!(reply(&map, &with_word(&order, 28, 0), 4, 0), refused(10, 7));
     assert_eq!(reply(&map, &with_word(&order, 4, 4), 4, 0), refused(11, 1));
     for road in [0, 4, u32::MAX] {
         assert_eq!(reply(&map, &order, road, 0), refused(24, road.into()));
         assert_eq!(reply(&map, &order, road, 800), refused(24, road.into()));
     }
-    assert_eq!(reply(&map, &order, 3, 35), refused(12, 3));
-    assert_eq!(reply(&map, &order, 2, 35), refused(12, 3));
-    assert_eq!(reply(&map, &order, 2, 36), refused(13, 4));
-    assert_eq!(reply(&map, &order, 3, 36), refused(14, 56));
+    assert_eq!(reply(&map, &order, 3, 39), refused(12, 3));
+    assert_eq!(reply(&map, &order, 2, 39), refused(12, 3));
+    assert_eq!(reply(&map, &order, 2, 40), refused(13, 4));
+    assert_eq!(reply(&map, &order, 3, 40), refused(14, 60));
 }
 
 /// The plan from before goes on from where the closed road led; the preview's passes.
@@ -190,7 +190,7 @@ pub fn audits_on_the_struck_map() {
         let (_, struck) = struck(&open, road);
         assert_eq!(audit(&struck, &plan), after_closure);
         let (reply, sheet) = preview(&map, &order, road);
-        let previewed = Sheet::read(&sheet[..44]).expect("two drives");
+        let previewed = Sheet::read(&sheet[..48]).expect("two drives");
         for map in [&struck, &open] {
             assert_eq!(audit(map, &previewed), Reply::success(2, reply.arrival));
         }

@@ -53,7 +53,7 @@ pub fn order_t_split() -> Order {
         source: 1,
         target: 3,
         latest: 100_000,
-        ..Order::of_hours(EUROPEAN_RULES, [0, 0])
+        ..Order::of_hours(EUROPEAN_RULES, [0; 3])
     }
 }
 
@@ -81,13 +81,13 @@ pub fn small_map(car_parks: &[u64], roads: &[(u64, u64, u64)]) -> Map {
     map
 }
 
-/// Limits that small maps never meet, and no split.
+/// Limits that small maps never meet, no split, and no time for a weekly rest.
 pub fn small_order(source: u64, target: u64) -> Order {
     Order {
         source,
         target,
         latest: 1_000,
-        ..Order::of_hours([100, 2, 100, 20, 0, 0], [0, 0])
+        ..Order::of_hours([100, 2, 100, 20, 0, 0, 100, 1_001], [0; 3])
     }
 }
 
@@ -106,7 +106,7 @@ pub fn plan_sheet(map: &Map, order: &Order) -> Sheet {
     let (reply, sheet) = planned(map, order, 800, 1_000);
     assert_eq!(reply.number, 0);
     let moves = usize::from(sheet[0]);
-    let plan = Sheet::read(&sheet[..20 + 12 * moves]).expect("a plan");
+    let plan = Sheet::read(&sheet[..24 + 12 * moves]).expect("a plan");
     assert_eq!(reply, Reply::success(plan.labels, plan.arrival));
     assert!(sheet[plan.length()..].iter().all(|byte| *byte == MARK));
     plan

@@ -17,13 +17,14 @@ fn expect_plan(map: &Map, order: &Order, labels: u64, rows: &[(u64, u64, u64)]) 
 pub fn source_is_target() {
     let map = small_map(&[1], &[(1, 1, 5)]);
     let mut order = small_order(1, 1);
-    (order.departure, order.spell, order.shift) = (9, 40, 50);
+    (order.departure, order.spell, order.shift, order.week) = (9, 40, 50, 60);
     let plan = plan_sheet(&map, &order);
-    assert_eq!((plan.arrival, plan.spell, plan.shift), (9, 40, 50));
+    let figures = (plan.arrival, plan.spell, plan.shift, plan.week);
+    assert_eq!(figures, (9, 40, 50, 60));
     assert_eq!((plan.labels, plan.records.len()), (1, 0));
-    assert_eq!(planned(&map, &order, 9, 20).0, Reply::success(1, 9));
-    assert_eq!(planned(&map, &order, 8, 20).0, refused(12, 0));
-    assert_eq!(planned(&map, &order, 9, 19).0, refused(14, 20));
+    assert_eq!(planned(&map, &order, 10, 24).0, Reply::success(1, 9));
+    assert_eq!(planned(&map, &order, 9, 24).0, refused(12, 0));
+    assert_eq!(planned(&map, &order, 10, 23).0, refused(14, 24));
 }
 
 /// Equal figures at a lower junction than target's are counted, at a higher one not.
@@ -37,7 +38,7 @@ pub fn rank_ends_with_junction() {
 pub fn only_labels_are_counted() {
     let map = small_map(&[0; 5], &[(1, 2, 1), (1, 3, 5), (1, 4, 6), (1, 5, 7)]);
     assert_eq!(
-        planned(&map, &small_order(1, 2), 18, 32).0,
+        planned(&map, &small_order(1, 2), 20, 36).0,
         Reply::success(2, 1)
     );
 }
@@ -80,7 +81,7 @@ pub fn target_is_generated_before_it_is_lowest() {
 /// From Lay to End with 9,001 seconds of spell: a break comes before the first drive.
 pub fn tired_driver_pauses_at_source() {
     let mut order = order_t();
-    (order.source, order.spell, order.shift) = (2, 9_001, 9_001);
+    (order.source, order.spell, order.shift, order.week) = (2, 9_001, 9_001, 9_001);
     expect_plan(&map_t(), &order, 3, &[(2, 2, 2_700), (1, 2, 9_900)]);
     (order.spell, order.shift) = (9_000, 9_000);
     expect_plan(&map_t(), &order, 3, &[(1, 2, 7_200)]);
@@ -90,28 +91,28 @@ pub fn tired_driver_pauses_at_source() {
 pub fn no_journey() {
     let mut order = order_t();
     (order.source, order.target) = (3, 1);
-    assert_eq!(planned(&map_t(), &order, 9, 0).0, refused(13, 1));
+    assert_eq!(planned(&map_t(), &order, 10, 0).0, refused(13, 1));
     // From Lay: the start and End; pauses of a fresh driver are dominated.
     order.source = 2;
     assert_eq!(planned(&map_t(), &order, 800, 0).0, refused(13, 2));
     // A tired driver has states after a break and after a rest too, at Lay and at End.
-    (order.spell, order.shift) = (100, 100);
+    (order.spell, order.shift, order.week) = (100, 100, 100);
     assert_eq!(planned(&map_t(), &order, 800, 0).0, refused(13, 6));
 }
 
 pub fn full_before_no_road_and_short_sheet() {
     let mut order = order_t();
-    assert_eq!(planned(&map_t(), &order, 27, 0).0, refused(12, 3));
+    assert_eq!(planned(&map_t(), &order, 39, 0).0, refused(12, 3));
     order.latest = 20_699;
-    assert_eq!(planned(&map_t(), &order, 26, 0).0, refused(12, 2));
-    assert_eq!(planned(&map_t(), &order, 27, 0).0, refused(13, 3));
+    assert_eq!(planned(&map_t(), &order, 29, 0).0, refused(12, 2));
+    assert_eq!(planned(&map_t(), &order, 30, 0).0, refused(13, 3));
 }
 
 pub fn labels_that_fit() {
-    for (words, labels) in [(0, 0), (8, 0), (9, 1), (17, 1), (9_000_000, 1_000_000)] {
+    for (words, labels) in [(0, 0), (9, 0), (10, 1), (19, 1), (10_000_000, 1_000_000)] {
         assert_eq!(planning::labels_that_fit(words), labels);
     }
-    assert_eq!(planning::labels_that_fit(9_000_009), 1_000_000);
+    assert_eq!(planning::labels_that_fit(10_000_010), 1_000_000);
 }
 
 pub fn map_and_order_come_first() {

@@ -8,11 +8,18 @@ use crate::sheet::Sheet;
 
 const PLAN: [(u64, u64, u64); 3] = [(1, 1, 10_800), (2, 2, 13_500), (1, 2, 20_700)];
 
+/// With the shift as the week, which there is no weekly rest to make another.
 fn sheet(rows: &[(u64, u64, u64)], arrival: u64, spell: u64, shift: u64) -> Vec<u8> {
+    sheet_of_week(rows, [arrival, spell, shift, shift])
+}
+
+fn sheet_of_week(rows: &[(u64, u64, u64)], figures: [u64; 4]) -> Vec<u8> {
+    let [arrival, spell, shift, week] = figures;
     let sheet = Sheet {
         arrival,
         spell,
         shift,
+        week,
         labels: 77,
         records: records(rows),
     };
@@ -44,25 +51,29 @@ fn both(order: &Order, given: &[u8], number: u64, place: u64) {
 
 pub fn retimed() {
     let false_figures = sheet(&[(1, 1, 9), (2, 2, 8), (1, 2, 7)], 1, 2, 3);
-    let (reply, out) = retime(&order_t(), &false_figures, 60);
+    let (reply, out) = retime(&order_t(), &false_figures, 64);
     assert_eq!(reply, Reply::success(3, 20_700));
-    assert_eq!(out[..56], true_sheet());
-    assert_eq!(out[56..], [MARK; 4]);
-    let rested = sheet(
+    assert_eq!(out[..60], true_sheet());
+    assert_eq!(out[60..], [MARK; 4]);
+    let rested = sheet_of_week(
         &[(1, 1, 10_800), (3, 2, 50_400), (1, 2, 57_600)],
-        57_600,
-        7_200,
-        7_200,
+        [57_600, 7_200, 7_200, 18_000],
     );
     assert_eq!(
-        retime(&order_t(), &rested, 56),
+        retime(&order_t(), &rested, 60),
         (Reply::success(3, 57_600), rested)
     );
     let mut home = order_t();
-    (home.target, home.departure, home.spell, home.shift) = (1, 7, 5, 6);
+    (
+        home.target,
+        home.departure,
+        home.spell,
+        home.shift,
+        home.week,
+    ) = (1, 7, 5, 6, 6);
     let nothing = sheet(&[], 7, 5, 6);
     assert_eq!(
-        retime(&home, &sheet(&[], 0, 0, 0), 20),
+        retime(&home, &sheet(&[], 0, 0, 0), 24),
         (Reply::success(0, 7), nothing)
     );
 }
@@ -73,6 +84,7 @@ pub fn moves_that_are_refused() {
         (4, 1),
         (5, 1),
         (6, 1),
+        (7, 1),
         (257, 1),
         (1, 0),
         (1, 2),
@@ -98,23 +110,24 @@ pub fn moves_that_are_refused() {
 pub fn torn() {
     let plan = true_sheet();
     both(&order_t(), &[], 15, 0);
-    both(&order_t(), &plan[..19], 15, 19);
-    both(&order_t(), &plan[..55], 15, 55);
-    both(&order_t(), &[&plan[..], b"x"].concat(), 15, 57);
+    for length in [19, 20, 23, 24, 56, 59] {
+        both(&order_t(), &plan[..length], 15, length as u64);
+    }
+    both(&order_t(), &[&plan[..], b"x"].concat(), 15, 61);
     for moves in [0, 2, 4, 1_000_000, 3 + (1 << 30), ALL_BITS] {
-        both(&order_t(), &with_word(&plan, 0, moves), 15, 56);
+        both(&order_t(), &with_word(&plan, 0, moves), 15, 60);
     }
 }
 
 pub fn stray_and_short() {
-    both(&order_t(), &sheet(&PLAN[..2], 9, 9, 9)[..32], 15, 32);
+    both(&order_t(), &sheet(&PLAN[..2], 9, 9, 9)[..36], 15, 36);
     let stray = sheet(&PLAN[..2], 9, 9, 9);
     both(&order_t(), &stray, 19, 2);
     assert_eq!(retime(&order_t(), &stray, 0).0, refused(19, 2));
     both(&order_t(), &sheet(&[], 0, 0, 0), 19, 1);
     assert_eq!(
-        retime(&order_t(), &true_sheet(), 55),
-        (refused(14, 56), vec![MARK; 55])
+        retime(&order_t(), &true_sheet(), 59),
+        (refused(14, 60), vec![MARK; 59])
     );
 }
 
@@ -122,7 +135,7 @@ pub fn false_figures() {
     assert_eq!(audit(&order_t(), &true_sheet()), Reply::success(3, 20_700));
     let false_clock = sheet(&[PLAN[0], (2, 2, 13_501), PLAN[2]], 20_700, 7_200, 18_000);
     assert_eq!(audit(&order_t(), &false_clock), refused(18, 2));
-    for offset in [4, 8, 12] {
+    for offset in [4, 8, 12, 16] {
         assert_eq!(
             audit(&order_t(), &with_word(&true_sheet(), offset, 1)),
             refused(18, 4)

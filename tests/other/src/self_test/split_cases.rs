@@ -48,9 +48,9 @@ pub fn map_t_with_the_parts_of_europe() {
     let expected = [(1, 1, 10_800), (2, 2, 13_500), (1, 2, 20_700)];
     assert_eq!((plan.labels, plan.records), (6, records(&expected)));
     let full = refused(12, 5);
-    assert_eq!(planned(&map_t(), &order_t_split(), 53, 56).0, full);
+    assert_eq!(planned(&map_t(), &order_t_split(), 59, 60).0, full);
     let just_room = Reply::success(6, 20_700);
-    assert_eq!(planned(&map_t(), &order_t_split(), 54, 56).0, just_room);
+    assert_eq!(planned(&map_t(), &order_t_split(), 60, 60).0, just_room);
 }
 
 /// A first part at B and a second at C take 7 seconds where the break takes 10.
@@ -90,6 +90,7 @@ pub fn dominance_with_the_mark() {
         clock,
         spell: 5,
         shift: 5,
+        week: 5,
         mark,
         junction: 1,
     };
@@ -104,7 +105,8 @@ pub fn dominance_with_the_mark() {
 /// The reply to audit of moves from Lay, which is the target too, with the clocks as they must be.
 fn audited_at_lay(kinds: &[u64], parts: [u64; 2]) -> Reply {
     let mut order = order_t();
-    (order.source, order.target, order.spell, order.shift) = (2, 2, 7, 9);
+    (order.source, order.target) = (2, 2);
+    (order.spell, order.shift, order.week) = (7, 9, 9);
     [order.first_part, order.second_part] = parts;
     let trip = opened(&map_t(), &order);
     let mut state = trip.start();
@@ -119,8 +121,7 @@ fn audited_at_lay(kinds: &[u64], parts: [u64; 2]) -> Reply {
 }
 
 pub fn moves_of_a_split() {
-    let [.., first, second] = EUROPEAN_RULES;
-    let parts = [first, second];
+    let [_, _, _, _, parts @ .., _, _] = EUROPEAN_RULES;
     for (kinds, arrival) in [
         (&[4][..], 900),
         (&[4, 4], 1_800),
@@ -137,7 +138,7 @@ pub fn moves_of_a_split() {
         (&[4, 5, 5], 3),
         (&[4, 2, 5], 3),
         (&[4, 3, 5], 3),
-        (&[6], 1),
+        (&[7], 1),
     ] {
         let foreign = refused(16, place);
         assert_eq!(audited_at_lay(kinds, parts), foreign, "{kinds:?}");
@@ -146,16 +147,24 @@ pub fn moves_of_a_split() {
     assert_eq!(audited_at_lay(&[2, 5], [0, 0]), refused(16, 2));
 }
 
-const EUROPEAN: LentRules = [16_200, 2_700, 32_400, 39_600, 900, 1_800];
-const NO_SPLIT: LentRules = [16_200, 2_700, 32_400, 39_600, 0, 0];
+const EUROPEAN: LentRules = [16_200, 2_700, 32_400, 39_600, 900, 1_800, 201_600, 162_000];
+const NO_SPLIT: LentRules = [16_200, 2_700, 32_400, 39_600, 0, 0, 201_600, 162_000];
 
-fn expect(rules: LentRules, rows: &[(u64, u64)], before: LentFigures, after: LentFigures) {
+/// By spell, shift and mark. No pause here is a weekly rest: the week gains what is driven.
+fn expect(rules: LentRules, rows: &[(u64, u64)], before: [u32; 3], after: [u32; 3]) {
     let taken = Reply::success(rows.len() as u64, 0);
+    let driving = rows.iter().filter(|(activity, _)| *activity == DRIVING);
+    let driven: u64 = driving.map(|(_, seconds)| seconds).sum();
+    let week = 25;
     assert_eq!(
-        replayed(&trace(rows), rules, before),
-        (taken, after),
+        replayed(&trace(rows), rules, with_week(before, week)),
+        (taken, with_week(after, week + driven as u32)),
         "{rows:?}"
     );
+}
+
+fn with_week([spell, shift, mark]: [u32; 3], week: u32) -> LentFigures {
+    [spell, shift, week, mark]
 }
 
 pub fn replayed_pauses() {
@@ -198,7 +207,7 @@ pub fn replayed_pauses_are_judged_whole() {
 pub fn refused_traces_leave_the_mark() {
     let records = [(PAUSE, 900), (DRIVING, 16_201)];
     for mark in [0, 1] {
-        let figures = [0, 0, mark];
+        let figures = [0, 0, 0, mark];
         let kept = (refused(23, 2), figures);
         assert_eq!(replayed(&trace(&records), EUROPEAN, figures), kept);
     }
@@ -208,12 +217,9 @@ pub fn refused_traces_leave_the_mark() {
         ([2_701, 1], 10),
         ([1, 2_701], 11),
     ] {
-        let [limits @ .., _, _] = EUROPEAN;
-        let rules = [limits.as_slice(), &parts]
-            .concat()
-            .try_into()
-            .expect("six");
-        let kept = (refused(10, place), [9, 5, 1]);
-        assert_eq!(replayed(&[0; 9], rules, [9, 5, 1]), kept);
+        let mut rules = EUROPEAN;
+        [rules[4], rules[5]] = parts;
+        let kept = (refused(10, place), [9, 5, 4, 1]);
+        assert_eq!(replayed(&[0; 9], rules, [9, 5, 4, 1]), kept);
     }
 }

@@ -1,5 +1,5 @@
 //! Replaying traces under the European rules: limits of 16,200 and 32,400 seconds, a break of 2,700
-//! and a rest of 39,600, without a split.
+//! and a rest of 39,600, without a split and in a week that is never full.
 
 use super::fixtures::*;
 use crate::operations::DOCUMENT;
@@ -10,7 +10,7 @@ use crate::reply::Reply;
 use crate::words::bytes_of;
 
 const EUROPEAN: [u32; 4] = [16_200, 2_700, 32_400, 39_600];
-const NO_SPLIT: [u32; 2] = [0, 0];
+const WEEK: u32 = 1_000_000;
 const TIRED: [u32; 2] = [16_200, 32_400];
 
 pub fn trace(records: &[(u64, u64)]) -> Vec<u8> {
@@ -25,18 +25,14 @@ pub fn replayed(trace: &[u8], rules: LentRules, before: LentFigures) -> (Reply, 
     (reply, figures)
 }
 
-/// The same without a split and without the mark, which then is never set.
+/// The same without a split and without the mark, which then is never set. The week starts as the shift.
 fn replayed_whole(trace: &[u8], rules: [u32; 4], before: [u32; 2]) -> (Reply, [u32; 2]) {
-    let ([spell_limit, break_time, shift_limit, rest_time], [first, second]) = (rules, NO_SPLIT);
-    let rules = [
-        spell_limit,
-        break_time,
-        shift_limit,
-        rest_time,
-        first,
-        second,
-    ];
-    let (reply, [spell, shift, mark]) = replayed(trace, rules, [before[0], before[1], 0]);
+    let mut with_week = [0; 8];
+    with_week[..4].copy_from_slice(&rules);
+    with_week[6..].copy_from_slice(&[WEEK, WEEK]);
+    let [spell, shift] = before;
+    let (reply, figures) = replayed(trace, with_week, [spell, shift, shift, 0]);
+    let [spell, shift, _, mark] = figures;
     assert_eq!(mark, 0);
     (reply, [spell, shift])
 }

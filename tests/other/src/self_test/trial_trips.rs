@@ -27,22 +27,23 @@ fn plan_t() -> Sheet {
         arrival: 20_700,
         spell: 7_200,
         shift: 18_000,
+        week: 18_000,
         labels: 4,
         records: records(&[(1, 1, 10_800), (2, 2, 13_500), (1, 2, 20_700)]),
     }
 }
 
 pub fn map_t_is_planned() {
-    let (reply, sheet) = planned(&map_t(), &order_t(), 36, 56);
+    let (reply, sheet) = planned(&map_t(), &order_t(), 40, 60);
     assert_eq!(reply, Reply::success(4, 20_700));
     assert_eq!(sheet, plan_t().bytes());
 }
 
 pub fn three_labels_are_full() {
-    for label_words in [27, 35] {
-        let (reply, sheet) = planned(&map_t(), &order_t(), label_words, 56);
+    for label_words in [30, 39] {
+        let (reply, sheet) = planned(&map_t(), &order_t(), label_words, 60);
         assert_eq!(reply, refused(12, 3));
-        assert_eq!(sheet, [MARK; 56]);
+        assert_eq!(sheet, [MARK; 60]);
     }
 }
 
@@ -50,18 +51,18 @@ pub fn latest_just_met_and_just_missed() {
     let mut order = order_t();
     order.latest = 20_700;
     assert_eq!(
-        planned(&map_t(), &order, 800, 56).0,
+        planned(&map_t(), &order, 800, 60).0,
         Reply::success(4, 20_700)
     );
     order.latest = 20_699;
-    assert_eq!(planned(&map_t(), &order, 800, 56).0, refused(13, 3));
+    assert_eq!(planned(&map_t(), &order, 800, 60).0, refused(13, 3));
 }
 
 /// Spell 9,000 and a road of 7,200 seconds is legal, 9,001 is not.
 pub fn spell_just_met_and_just_missed() {
     for (spell, legal) in [(9_000, true), (9_001, false)] {
         let mut order = order_t();
-        (order.source, order.spell, order.shift) = (2, spell, spell);
+        (order.source, order.spell, order.shift, order.week) = (2, spell, spell, spell);
         let trip = Trip::open(&map_t().bytes(), &order.bytes()).expect("an accepted run");
         let mut moves = trip.legal_moves::<Document>(&trip.start());
         moves.retain(|(step, _)| step.kind == DRIVE);
@@ -74,6 +75,7 @@ pub fn dominance() {
         clock,
         spell,
         shift,
+        week: shift,
         mark: Mark::Unmarked,
         junction,
     };
@@ -88,13 +90,13 @@ pub fn dominance() {
 }
 
 pub fn sheet_just_long_enough() {
-    let (reply, sheet) = planned(&map_t(), &order_t(), 800, 55);
-    assert_eq!(reply, refused(14, 56));
-    assert_eq!(sheet, [MARK; 55]);
-    let (reply, sheet) = planned(&map_t(), &order_t(), 800, 60);
+    let (reply, sheet) = planned(&map_t(), &order_t(), 800, 59);
+    assert_eq!(reply, refused(14, 60));
+    assert_eq!(sheet, [MARK; 59]);
+    let (reply, sheet) = planned(&map_t(), &order_t(), 800, 64);
     assert_eq!(reply, Reply::success(4, 20_700));
-    assert_eq!(sheet[..56], plan_t().bytes());
-    assert_eq!(sheet[56..], [MARK; 4]);
+    assert_eq!(sheet[..60], plan_t().bytes());
+    assert_eq!(sheet[60..], [MARK; 4]);
 }
 
 /// Map T's listing, and that of an order which no journey meets.
@@ -124,6 +126,6 @@ refused 13 3
 }
 
 pub fn european_figures() {
-    let expected = [16_200, 2_700, 32_400, 39_600, 900, 1_800];
+    let expected = [16_200, 2_700, 32_400, 39_600, 900, 1_800, 201_600, 162_000];
     assert_eq!(EUROPEAN_RULES, expected);
 }

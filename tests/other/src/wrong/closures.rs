@@ -5,7 +5,7 @@ use crate::map::Map;
 use crate::mapcheck::accepted_map;
 use crate::moves::{Document, Move, Trip, DRIVE};
 use crate::operations::{Operations, DOCUMENT};
-use crate::planning::{plan, records_of};
+use crate::planning::{plan, records_of, WORDS_OF_A_LABEL};
 use crate::reply::*;
 use crate::sheet::{sheet_bytes, Record};
 use crate::striking::{preview, strike};
@@ -357,7 +357,7 @@ impl WrongPreview for UnknownBehindFull {
 
     fn answer(mut lent: Lent) -> Reply {
         match lent.preview() {
-            reply if reply.number == UNKNOWN_ROAD && lent.labels.len() < 9 => {
+            reply if reply.number == UNKNOWN_ROAD && lent.labels.len() < WORDS_OF_A_LABEL => {
                 Reply::refused(FULL, 0)
             }
             reply => reply,
@@ -438,7 +438,7 @@ impl WrongPreview for CountsTheOpenLabels {
         match (reply.number, open.number) {
             (0, 0) => {
                 reply.place = open.place;
-                put_word(lent.sheet, 16, open.place);
+                put_word(lent.sheet, 20, open.place);
             }
             (NO_ROAD, NO_ROAD) => reply.place = open.place,
             _ => {}

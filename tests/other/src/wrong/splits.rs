@@ -3,14 +3,14 @@
 
 use std::cmp::{Ordering, Reverse};
 
+use super::shared::*;
 use super::{default_half, right_replay, WrongCopy};
 use crate::moves::{Document, Mark, Move, Offer, State, Trip, BREAK, DRIVE, FIRST, REST, SECOND};
 use crate::operations::{LentFigures, LentRules, Operations, ReplayFunction, DOCUMENT};
-use crate::order::{check_order, refuse_broken, Order, ORDER_BYTES};
-use crate::planning::{plan, Planner, MOST_LABELS, WORDS_OF_A_LABEL};
+use crate::order::Order;
+use crate::planning::Planner;
 use crate::replay::{replay, Replayer, TraceRecord, LONGEST_ACTIVITY, OTHER_WORK, PAUSE};
 use crate::reply::*;
-use crate::retiming::{audit, retime};
 
 pub fn copies() -> Vec<WrongCopy> {
     let mut copies = order_copies().to_vec();
@@ -20,79 +20,32 @@ pub fn copies() -> Vec<WrongCopy> {
     copies
 }
 
+/// The parts' rules are those from 6 on: each part at most the break, and then not alone zero.
 fn order_copies() -> [WrongCopy; 6] {
-    let with_check = |name, check_order| WrongCopy {
-        name,
-        operations: Operations {
-            check_order,
-            ..DOCUMENT
-        },
-    };
     [
-        with_check("first-part-alone-zero-accepted", first_zero_accepted),
-        with_check("second-part-alone-zero-accepted", second_zero_accepted),
-        with_check("lone-zero-charged-to-the-other", lone_zero_charged_to_other),
-        with_check("first-part-above-the-break", first_above_break),
-        with_check("second-part-above-the-break", second_above_break),
-        with_check("part-as-long-as-the-break-refused", part_as_break_refused),
+        checking("first-part-alone-zero-accepted", |bytes, junctions| {
+            check_by(bytes, junctions, |_, by| by.rules[7].1 = true)
+        }),
+        checking("second-part-alone-zero-accepted", |bytes, junctions| {
+            check_by(bytes, junctions, |_, by| by.rules[9].1 = true)
+        }),
+        checking("lone-zero-charged-to-the-other", |bytes, junctions| {
+            check_by(bytes, junctions, |_, by| {
+                (by.rules[7].0, by.rules[9].0) = (11, 10)
+            })
+        }),
+        checking("first-part-above-the-break", |bytes, junctions| {
+            check_by(bytes, junctions, |_, by| by.rules[6].1 = true)
+        }),
+        checking("second-part-above-the-break", |bytes, junctions| {
+            check_by(bytes, junctions, |_, by| by.rules[8].1 = true)
+        }),
+        checking("part-as-long-as-the-break-refused", |bytes, junctions| {
+            check_by(bytes, junctions, |order, by| {
+                by.rules[6].1 = order.first_part < order.break_time
+            })
+        }),
     ]
-}
-
-/// The order judged with some of its rules left out or replaced.
-fn check_by(bytes: &[u8], junctions: u32, rules: impl Fn(&Order) -> Vec<(u64, bool)>) -> Reply {
-    if bytes.len() != ORDER_BYTES {
-        return check_order(bytes, junctions);
-    }
-    let order = Order::read(bytes);
-    let judged = refuse_broken(BAD_RULES, &rules(&order))
-        .and_then(|()| refuse_broken(BAD_TRIP, &order.trip(u64::from(junctions))));
-    told(judged.map(|()| Reply::success(0, 0)))
-}
-
-/// The rules, with another verdict on the one of this index. The parts' rules are the last four:
-/// each part at most the break, and then not alone zero.
-fn judging(index: usize, verdict: impl Fn(&Order) -> bool) -> impl Fn(&Order) -> Vec<(u64, bool)> {
-    move |order| {
-        let mut rules = order.rules();
-        rules[index].1 = verdict(order);
-        rules.to_vec()
-    }
-}
-
-fn first_zero_accepted(bytes: &[u8], junctions: u32) -> Reply {
-    check_by(bytes, junctions, judging(7, |_| true))
-}
-
-fn second_zero_accepted(bytes: &[u8], junctions: u32) -> Reply {
-    check_by(bytes, junctions, judging(9, |_| true))
-}
-
-fn lone_zero_charged_to_other(bytes: &[u8], junctions: u32) -> Reply {
-    check_by(bytes, junctions, |order| {
-        let mut rules = order.rules();
-        (rules[7].0, rules[9].0) = (11, 10);
-        rules.to_vec()
-    })
-}
-
-fn first_above_break(bytes: &[u8], junctions: u32) -> Reply {
-    check_by(bytes, junctions, judging(6, |_| true))
-}
-
-fn second_above_break(bytes: &[u8], junctions: u32) -> Reply {
-    check_by(bytes, junctions, judging(8, |_| true))
-}
-
-fn part_as_break_refused(bytes: &[u8], junctions: u32) -> Reply {
-    let shorter = |order: &Order| order.first_part < order.break_time;
-    check_by(bytes, junctions, judging(6, shorter))
-}
-
-/// A wrong move twice: in planning, where it must change a plan or N, and in retiming and audit.
-macro_rules! in_plans_and_timed {
-    ($($copy:ident: $name:literal),* $(,)?) => {
-        [$(planning::<$copy>($name), timing::<$copy>(concat!($name, "-timed"))),*]
-    };
 }
 
 /// The last ones are timed alone, since no plan shows them. So it is with a break that keeps the mark: a
@@ -115,57 +68,6 @@ fn move_copies() -> Vec<WrongCopy> {
     copies.push(timing::<FirstOnceOnly>("no-first-with-the-mark-timed"));
     copies.push(timing::<PartsWithoutSplit>("parts-without-a-split-timed"));
     copies
-}
-
-fn planning<P: Planner>(name: &'static str) -> WrongCopy {
-    WrongCopy {
-        name,
-        operations: Operations {
-            plan: plan::<P>,
-            ..DOCUMENT
-        },
-    }
-}
-
-fn timing<O: Offer>(name: &'static str) -> WrongCopy {
-    WrongCopy {
-        name,
-        operations: Operations {
-            retime: retime::<O>,
-            audit: audit::<O>,
-            ..DOCUMENT
-        },
-    }
-}
-
-/// The state after a move, changed where the move is of one kind.
-fn after_changed(
-    trip: &Trip,
-    state: &State,
-    step: Move,
-    kind: u64,
-    change: impl Fn(&mut State),
-) -> Option<State> {
-    let mut after = trip.after(state, step)?;
-    if step.kind == kind {
-        change(&mut after);
-    }
-    Some(after)
-}
-
-/// A copy in which moves of one kind leave another state.
-macro_rules! changed_move {
-    ($copy:ident, $kind:ident, |$before:ident, $after:ident| $change:expr) => {
-        struct $copy;
-
-        impl Offer for $copy {
-            fn after(trip: &Trip, $before: &State, step: Move) -> Option<State> {
-                after_changed(trip, $before, step, $kind, |$after| $change)
-            }
-        }
-
-        impl Planner for $copy {}
-    };
 }
 
 changed_move!(BreakKeepsMark, BREAK, |state, after| after.mark =
@@ -247,20 +149,19 @@ impl Offer for PartsWithoutSplit {
 
 /// No copy in which a marked state dominates no unmarked one: it has the same labels, since the journey
 /// without the last first part is there too, unmarked and earlier.
-fn label_copies() -> [WrongCopy; 5] {
+fn label_copies() -> [WrongCopy; 4] {
     [
         planning::<UnmarkedBetter>("unmarked-state-better"),
         planning::<MarkUnseen>("dominance-ignores-the-mark"),
         planning::<RankWithoutMark>("rank-ignores-the-mark"),
         planning::<UnmarkedFirst>("rank-puts-unmarked-first"),
-        planning::<EightWords>("label-of-eight-words"),
     ]
 }
 
 default_half!(Planner: SecondUnmarked, PartsAnywhere, PartsExchanged);
-default_half!(Offer: UnmarkedBetter, MarkUnseen, RankWithoutMark, UnmarkedFirst, EightWords);
+default_half!(Offer: UnmarkedBetter, MarkUnseen, RankWithoutMark, UnmarkedFirst);
 
-/// Dominance by clock, spell and shift alone.
+/// Dominance by clock, spell, shift and week alone.
 fn figures_dominate(one: &State, other: &State) -> bool {
     let mark = other.mark;
     one != other && (State { mark, ..*one } == *other || State { mark, ..*one }.dominates(other))
@@ -286,7 +187,7 @@ struct RankWithoutMark;
 
 impl Planner for RankWithoutMark {
     fn rank(one: &State, other: &State) -> Ordering {
-        let key = |s: &State| (s.clock, s.spell, s.shift, s.junction);
+        let key = |s: &State| (s.clock, s.spell, s.shift, s.week, s.junction);
         key(one).cmp(&key(other))
     }
 }
@@ -295,16 +196,11 @@ struct UnmarkedFirst;
 
 impl Planner for UnmarkedFirst {
     fn rank(one: &State, other: &State) -> Ordering {
-        let key = |s: &State| (s.clock, s.spell, s.shift, Reverse(s.mark), s.junction);
+        let key = |s: &State| {
+            let figures = (s.clock, s.spell, s.shift, s.week);
+            (figures, Reverse(s.mark), s.junction)
+        };
         key(one).cmp(&key(other))
-    }
-}
-
-struct EightWords;
-
-impl Planner for EightWords {
-    fn fitting(label_words: usize) -> usize {
-        MOST_LABELS.min(label_words / (WORDS_OF_A_LABEL - 1))
     }
 }
 
@@ -369,8 +265,8 @@ const SECOND_OF_WORK: TraceRecord = TraceRecord {
 };
 
 fn lent_mark_ignored(trace: &[u8], rules: LentRules, figures: &mut LentFigures) -> Reply {
-    let [spell, shift, _] = *figures;
-    let mut unmarked = [spell, shift, 0];
+    let [spell, shift, week, _] = *figures;
+    let mut unmarked = [spell, shift, week, 0];
     let reply = right_replay(trace, rules, &mut unmarked);
     if reply.number == 0 {
         *figures = unmarked;
@@ -379,9 +275,9 @@ fn lent_mark_ignored(trace: &[u8], rules: LentRules, figures: &mut LentFigures) 
 }
 
 fn mark_not_handed_back(trace: &[u8], rules: LentRules, figures: &mut LentFigures) -> Reply {
-    let [_, _, mark] = *figures;
+    let [.., mark] = *figures;
     let reply = right_replay(trace, rules, figures);
-    figures[2] = mark;
+    figures[3] = mark;
     reply
 }
 
