@@ -3,6 +3,7 @@
 mod closures;
 mod shared;
 mod splits;
+mod weeks;
 
 use crate::chains::make_chains;
 use crate::map::Road;
@@ -64,6 +65,7 @@ pub fn wrong_copies() -> Vec<WrongCopy> {
     copies.extend(check_copies());
     copies.extend(replay_copies());
     copies.extend(splits::copies());
+    copies.extend(weeks::copies());
     copies.extend(closures::copies());
     copies
 }

@@ -114,7 +114,7 @@ pub fn plans_pass_their_audit() {
 }
 
 /// Wrong copies that the laws alone must find, without a second implementation.
-const UNLAWFUL: [&str; 13] = [
+const UNLAWFUL: [&str; 15] = [
     "full-when-just-enough",
     "invented-count",
     "sheet-unwritten",
@@ -123,6 +123,8 @@ const UNLAWFUL: [&str; 13] = [
     "pause-at-the-end-unjudged",
     "lent-mark-ignored",
     "mark-not-handed-back",
+    "lent-week-ignored",
+    "week-not-handed-back",
     "strike-moves-the-other-end",
     "preview-of-the-open-map",
     "preview-strikes-the-lent-map",
