@@ -7,10 +7,12 @@ use crate::case_probes::{ample_plan, label_count, probes};
 use crate::compare::marks;
 use crate::make::random::Random;
 use crate::make::{case, Run};
-use crate::moves::{DRIVE, WEEKLY};
+use crate::moves::{Document, Trip, DRIVE, WEEKLY};
 use crate::operations::{LentRules, DOCUMENT};
+use crate::order::LONGEST_RULE;
+use crate::planning::{answer_of, reachable_states, reaches_at_most};
 use crate::probe::{answer, Answer, Probe};
-use crate::reply::UNKNOWN_ROAD;
+use crate::reply::{Reply, BAD_RULES, BAD_TRIP, FALSE_FIGURE, NO_ROAD, PAST_LIMIT, UNKNOWN_ROAD};
 use crate::sheet::{sheet_bytes, Sheet};
 use crate::words::word;
 
@@ -41,6 +43,8 @@ pub struct Summary {
     kinds: BTreeMap<u64, u64>,
     /// Accepted traces by the figures that they leave.
     figures: BTreeMap<&'static str, u64>,
+    /// Answers that the week alone decides.
+    by_the_week: BTreeMap<&'static str, u64>,
 }
 
 pub fn summary(seed: u64, count: u64) -> Summary {
@@ -64,6 +68,9 @@ impl Summary {
         let key = (seen.reply.number, probe.operation());
         *self.replies.entry(key).or_default() += 1;
         self.calls += 1;
+        if let Some(what) = decided_by_the_week(probe, seen.reply) {
+            *self.by_the_week.entry(what).or_default() += 1;
+        }
         if let (Probe::Replay { rules, .. }, 0) = (probe, seen.reply.number) {
             self.add_figures(*rules, seen);
         }
@@ -92,6 +99,9 @@ impl Summary {
         }
         if seen.reply.number == 0 {
             self.add_moves(&seen);
+        }
+        if seen.reply.number == NO_ROAD && week_bars_the_way(run) {
+            *self.by_the_week.entry("runs without a road").or_default() += 1;
         }
     }
 
@@ -127,8 +137,60 @@ impl Summary {
         describe_row(&mut text, "plans with moves", &self.lengths);
         describe_row(&mut text, "plans with kind", &self.kinds);
         describe_row(&mut text, "traces that leave", &self.figures);
+        describe_row(&mut text, "by the week alone", &self.by_the_week);
         text
     }
+}
+
+/// What a call shows of the week, where nothing else would give its answer.
+fn decided_by_the_week(probe: &Probe, reply: Reply) -> Option<&'static str> {
+    match (probe, reply.number, reply.place) {
+        (Probe::CheckOrder { .. }, BAD_RULES, 12) => Some("orders charged to word 12"),
+        (Probe::CheckOrder { .. }, BAD_RULES, 13) => Some("orders charged to word 13"),
+        (Probe::CheckOrder { .. }, BAD_TRIP, 14) => Some("orders charged to word 14"),
+        (Probe::Audit { run, sheet }, FALSE_FIGURE, _) => {
+            is_week_alone_false(run, sheet).then_some("sheets with a false figure")
+        }
+        (
+            Probe::Replay {
+                trace,
+                rules,
+                figures,
+            },
+            PAST_LIMIT,
+            _,
+        ) => {
+            let mut unlimited = *rules;
+            unlimited[6] = LONGEST_RULE as u32;
+            let other = (DOCUMENT.replay)(trace, unlimited, &mut figures.clone());
+            (other != reply).then_some("traces past a limit")
+        }
+        _ => None,
+    }
+}
+
+fn is_week_alone_false(run: &Run, sheet: &[u8]) -> bool {
+    let mut truly = sheet.to_vec();
+    let retimed = (DOCUMENT.retime)(&run.map, &run.order, sheet, &mut truly);
+    let [given, truly] = [sheet, &truly].map(Sheet::read);
+    match (given, truly) {
+        (Some(given), Some(truly)) if retimed.number == 0 => {
+            let week = truly.week;
+            given.week != week && Sheet { week, ..given } == truly
+        }
+        _ => false,
+    }
+}
+
+/// The most states that are listed to see whether there is a road without the week limit.
+const MOST_STATES: usize = 20_000;
+
+/// Whether a run that has no road has one under the highest week limit.
+fn week_bars_the_way(run: &Run) -> bool {
+    let mut trip = Trip::open(&run.map, &run.order).expect("a run that was searched");
+    trip.order.week_limit = LONGEST_RULE;
+    reaches_at_most(&trip, MOST_STATES)
+        && answer_of::<Document>(&trip, &reachable_states::<Document>(&trip)).is_some()
 }
 
 fn describe_row<K: std::fmt::Display>(text: &mut String, title: &str, row: &BTreeMap<K, u64>) {

@@ -100,9 +100,9 @@ fn random_trip(random: &mut Random) -> Trip {
 }
 
 fn draw_trip(random: &mut Random) -> Trip {
-    match random.below(100) {
-        0..=2 => return ties::tied_trip(random),
-        3 => return weeks::week_trip(random),
+    match random.below(200) {
+        0..=3 => return ties::tied_trip(random),
+        4 => return weeks::week_trip(random),
         _ => {}
     }
     let map = maps::random_map(random);

@@ -115,7 +115,7 @@ pub fn random_parts(random: &mut Random, break_time: u64) -> [u64; 2] {
 /// that no trip has time for it.
 fn random_week_rules(random: &mut Random, unit: u64, shift_limit: u64, rest_time: u64) -> [u64; 2] {
     let limited = |value: u64| value.min(LONGEST_RULE);
-    let units = random.pick(&[0, 0, 1, 1, 2, 3, 6]);
+    let units = random.pick(&[0, 1, 2, 3, 6]);
     let close = limited(shift_limit + near(random, unit * units));
     let longer = random.pick(&[0, 1, unit / 2, unit, unit, 3 * unit]);
     let short = limited(rest_time + near(random, longer));
