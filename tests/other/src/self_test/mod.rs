@@ -10,6 +10,7 @@ mod sheet_cases;
 mod split_cases;
 mod trace_cases;
 mod trial_trips;
+mod week_cases;
 
 /// A test's name and the function that panics where it fails.
 pub type Test = (&'static str, fn());
@@ -43,6 +44,7 @@ pub fn tests() -> Vec<Test> {
         order_cases::length,
         order_cases::charges,
         order_cases::charges_of_parts,
+        order_cases::charges_of_the_week,
         order_cases::last_values_pass,
         plan_cases::source_is_target,
         plan_cases::rank_ends_with_junction,
@@ -76,6 +78,16 @@ pub fn tests() -> Vec<Test> {
         split_cases::replayed_pauses,
         split_cases::replayed_pauses_are_judged_whole,
         split_cases::refused_traces_leave_the_mark,
+        week_cases::weekly_rest_where_a_rest_is_not_enough,
+        week_cases::map_t_late_in_the_week,
+        week_cases::more_than_a_week_of_driving,
+        week_cases::rank_puts_the_week_before_the_mark,
+        week_cases::dominance_with_the_week,
+        week_cases::moves_of_a_week,
+        week_cases::weeks_of_sheets,
+        week_cases::week_limits_of_sheets,
+        week_cases::replayed_weeks,
+        week_cases::replayed_week_limits,
         closure_cases::striking,
         closure_cases::unknown_roads,
         closure_cases::closures_on_map_t,

@@ -11,7 +11,7 @@ use crate::replay::{DRIVING, OTHER_WORK, PAUSE};
 use crate::reply::Reply;
 use crate::sheet::Sheet;
 
-fn opened(map: &Map, order: &Order) -> Trip {
+pub fn opened(map: &Map, order: &Order) -> Trip {
     Trip::open(&map.bytes(), &order.bytes()).expect("an accepted run")
 }
 
@@ -102,13 +102,9 @@ pub fn dominance_with_the_mark() {
     assert!(!marked.dominates(&earlier) && earlier < marked);
 }
 
-/// The reply to audit of moves from Lay, which is the target too, with the clocks as they must be.
-fn audited_at_lay(kinds: &[u64], parts: [u64; 2]) -> Reply {
-    let mut order = order_t();
-    (order.source, order.target) = (2, 2);
-    (order.spell, order.shift, order.week) = (7, 9, 9);
-    [order.first_part, order.second_part] = parts;
-    let trip = opened(&map_t(), &order);
+/// The reply to audit of pauses at Lay, which is the order's source and target, with clocks and header as they must be.
+pub fn audited_pauses(order: &Order, kinds: &[u64]) -> Reply {
+    let trip = opened(&map_t(), order);
     let mut state = trip.start();
     let mut rows = Vec::new();
     for kind in kinds {
@@ -118,6 +114,14 @@ fn audited_at_lay(kinds: &[u64], parts: [u64; 2]) -> Reply {
     }
     let sheet = Sheet::ending_at(&state, 1, records(&rows)).bytes();
     (DOCUMENT.audit)(&map_t().bytes(), &order.bytes(), &sheet)
+}
+
+fn audited_at_lay(kinds: &[u64], parts: [u64; 2]) -> Reply {
+    let mut order = order_t();
+    (order.source, order.target) = (2, 2);
+    (order.spell, order.shift, order.week) = (7, 9, 9);
+    [order.first_part, order.second_part] = parts;
+    audited_pauses(&order, kinds)
 }
 
 pub fn moves_of_a_split() {
