@@ -1,10 +1,10 @@
-"""Maps, orders and sheets as bytes, in the formats of documents 01 and 02 (P5), and traces in that of document 02 (P3)."""
+"""Maps, orders and sheets as bytes, in the formats of documents 01 and 02 (P5 and P7), and traces in that of document 02 (P3)."""
 import struct
 
 ALL_BITS = 0xFFFFFFFF
-EUROPE = [1, 3, 0, 100000, 0, 0, 16200, 2700, 32400, 39600, 0, 0]  # map T's order, which has no split
-EUROPE_SPLIT = EUROPE[:10] + [900, 1800]
-DRIVE, BREAK, REST, FIRST_PART, SECOND_PART = 1, 2, 3, 4, 5
+EUROPE = [1, 3, 0, 100000, 0, 0, 16200, 2700, 32400, 39600, 0, 0, 201600, 162000, 0]  # map T's order, which has no split
+EUROPE_SPLIT = EUROPE[:10] + [900, 1800] + EUROPE[12:]
+DRIVE, BREAK, REST, FIRST_PART, SECOND_PART, WEEKLY_REST = 1, 2, 3, 4, 5, 6
 WORK, DRIVING, PAUSE = 0, 1, 2
 
 # What the program prints of map T and its order, as document 01 has it.
@@ -60,15 +60,22 @@ def chained(junctions, roads):
 
 
 def order(base=EUROPE, **at):
-    """The order of twelve words; `w3=7` makes word 3 a 7."""
-    w = list(base)
+    """The order of fifteen words; `w3=7` makes word 3 a 7. A base that ends before word 12 takes Europe's week.
+
+    Where they are not told, words 12 to 14 are no lower than words 8, 9 and 5, as they must be.
+    """
+    w = list(base) + EUROPE[len(base) :]
     for key, value in at.items():
         w[int(key[1:])] = value
+    for number, other in ((12, 8), (13, 9), (14, 5)):
+        if "w%d" % number not in at:
+            w[number] = max(w[number], w[other])
     return words(*w)
 
 
-def sheet(rows, arrival=0, spell=0, shift=0, labels=4, moves=None):
-    head = words(len(rows) if moves is None else moves, arrival, spell, shift, labels)
+def sheet(rows, arrival=0, spell=0, shift=0, labels=4, moves=None, week=None):
+    """The week is the shift if it is not told, as it is where the trip starts so and has no rest."""
+    head = words(len(rows) if moves is None else moves, arrival, spell, shift, shift if week is None else week, labels)
     return head + b"".join(words(*r) for r in rows)
 
 

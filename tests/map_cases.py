@@ -149,10 +149,11 @@ check("broken chain and bad letter: the chain", road(1, NEXT, 0)[:-1] + b"\x7f",
 # --- order check -----------------------------------------------------------------------------
 order("European order 1 to 3", 3, changed(), "0 0 0")
 order("no order", 3, b"", "9 0 0")
-order("47 bytes", 3, changed()[:-1], "9 47 0")
-order("49 bytes", 3, changed() + b"x", "9 49 0")
+order("59 bytes", 3, changed()[:-1], "9 59 0")
+order("61 bytes", 3, changed() + b"x", "9 61 0")
 order("40 bytes, as before the split break", 3, changed()[:40], "9 40 0")
-order("52 bytes", 3, changed() + words(0), "9 52 0")
+order("48 bytes, as before the week", 3, changed()[:48], "9 48 0")
+order("64 bytes", 3, changed() + words(0), "9 64 0")
 order("source 0", 3, changed(w0=0), "11 0 0")
 order("source J", 3, changed(w0=3), "0 0 0")
 order("source above J", 3, changed(w0=4), "11 0 0")
@@ -213,7 +214,7 @@ order("both parts above a shorter break", 3, changed(EUROPE_SPLIT, w7=899), "10 
 order("break 0 with parts: the break's word", 3, changed(EUROPE_SPLIT, w7=0), "10 7 0")
 order("rest 0 and a lone zero part: the rest's word", 3, changed(w9=0, w11=1), "10 9 0")
 order("a lone zero part and a bad source: the part", 3, changed(w0=0, w10=1), "10 11 0")
-order("47 bytes with a lone zero part: the length", 3, changed(w11=1)[:-1], "9 47 0")
+order("59 bytes with a lone zero part: the length", 3, changed(w11=1)[:-1], "9 59 0")
 
 # --- names -----------------------------------------------------------------------------------
 name("name of 1", 1, T, "0 3 0", "Hub")

@@ -13,7 +13,7 @@ T_ROWS = [(DRIVE, 1, 10800), (BREAK, 2, 13500), (DRIVE, 2, 20700)]
 T_ANSWER = (20700, 7200, 18000)
 PARK, NO_PARK = True, False
 MARK = 0xEEEEEEEE
-LABEL_WORDS = 9
+LABEL_WORDS = 10
 
 
 def plan(title, trunk, orders, answer, label_words, lent, before=MARK, road=None, computed=False):
@@ -27,9 +27,10 @@ def unwritten(length):
 
 
 def planned(title, trunk, orders, labels, answer, rows, label_words=None, length=None, before=MARK, road=None):
-    """Room for exactly the plan's labels, and a sheet with four bytes more than it needs, if not told otherwise."""
-    arrival, spell, shift = answer
-    written = sheet(rows, arrival, spell, shift, labels)
+    """The answer is arrival, spell, shift and, where that is not the shift, week. Room for exactly the plan's labels,
+    and a sheet with four bytes more than it needs, if not told otherwise."""
+    arrival, spell, shift, *week = answer
+    written = sheet(rows, arrival, spell, shift, labels, week=week[0] if week else None)
     label_words = LABEL_WORDS * labels if label_words is None else label_words
     lent = unwritten(len(written) + 4 if length is None else length)
     after = written + lent[len(written) :]
@@ -43,7 +44,7 @@ def refused(title, trunk, orders, number, place, label_words=80, length=80, befo
     plan(title, trunk, orders, "%d %d 0 %s%s" % (number, place, lent.hex(), kept), label_words, lent, before, road)
 
 
-def computed(title, number, trunk, orders, label_words=1800, length=400, road=None):
+def computed(title, number, trunk, orders, label_words=2000, length=400, road=None):
     plan(title, trunk, orders, "%d " % number, label_words, unwritten(length), road=road, computed=True)
 
 
@@ -64,11 +65,11 @@ ONE_TO_FOUR = [1, 4] + EUROPE[2:]
 
 # --- document 01's trial trips -------------------------------------------------------------------
 planned("T, four labels", T, order(), 4, T_ANSWER, T_ROWS)
-refused("T, three labels: full", T, order(), 12, 3, label_words=27)
+refused("T, three labels: full", T, order(), 12, 3, label_words=30)
 planned("T, latest 20,700", T, order(w3=20700), 4, T_ANSWER, T_ROWS)
 refused("T, latest 20,699: no road", T, order(w3=20699), 13, 3)
-planned("T, sheet of 56 bytes", T, order(), 4, T_ANSWER, T_ROWS, length=56)
-refused("T, sheet of 55 bytes", T, order(), 14, 56, length=55)
+planned("T, sheet of 60 bytes", T, order(), 4, T_ANSWER, T_ROWS, length=60)
+refused("T, sheet of 59 bytes", T, order(), 14, 60, length=59)
 planned("1 m at 130 takes 1 second", one_road(1, 130), order(ONE_TO_TWO), 2, (1, 1, 1), [(DRIVE, 1, 1)])
 planned("1,250 m at 90 take 50 seconds", one_road(1250, 90), order(ONE_TO_TWO), 2, (50, 50, 50), [(DRIVE, 1, 50)])
 planned("1,251 m at 90 take 50 seconds", one_road(1251, 90), order(ONE_TO_TWO), 2, (50, 50, 50), [(DRIVE, 1, 50)])
@@ -92,29 +93,29 @@ SHORTER_BY_ROUNDING = chained([("A", NO_PARK), ("B", NO_PARK), ("C", NO_PARK)], 
 planned("the first to arrive by rounded times", SHORTER_BY_ROUNDING.bytes(), order(), 3, (2, 2, 2), [(DRIVE, 2, 1), (DRIVE, 3, 2)])
 
 # --- label space and sheet -----------------------------------------------------------------------
-planned("T, room for 455 labels", T, order(), 4, T_ANSWER, T_ROWS, label_words=4096)
-planned("T, 9N + 8 words", T, order(), 4, T_ANSWER, T_ROWS, label_words=44)
-refused("T, 9N - 1 words", T, order(), 12, 3, label_words=35)
-refused("T, four labels of eight words: full", T, order(), 12, 3, label_words=32)
-refused("T, 8 words: no label fits", T, order(), 12, 0, label_words=8)
+planned("T, room for 409 labels", T, order(), 4, T_ANSWER, T_ROWS, label_words=4096)
+planned("T, 10N + 9 words", T, order(), 4, T_ANSWER, T_ROWS, label_words=49)
+refused("T, 10N - 1 words", T, order(), 12, 3, label_words=39)
+refused("T, four labels of nine words: full", T, order(), 12, 3, label_words=36)
+refused("T, 9 words: no label fits", T, order(), 12, 0, label_words=9)
 refused("T, no words", T, order(), 12, 0, label_words=0)
 planned("T, label words of zeros", T, order(), 4, T_ANSWER, T_ROWS, before=0)
 planned("T, label words of ones", T, order(), 4, T_ANSWER, T_ROWS, before=1)
 planned("T, label words of all bits", T, order(), 4, T_ANSWER, T_ROWS, before=ALL_BITS)
 planned("T, a long sheet keeps its tail", T, order(), 4, T_ANSWER, T_ROWS, length=200)
-refused("T, no sheet", T, order(), 14, 56, length=0)
-refused("T, sheet of the header alone", T, order(), 14, 56, length=20)
-refused("no room and no sheet: full", T, order(), 12, 3, label_words=27, length=0)
-refused("no room and no journey: full", T, order(w3=20699), 12, 2, label_words=18)
-refused("no journey and room for exactly its labels", T, order(w3=20699), 13, 3, label_words=27)
+refused("T, no sheet", T, order(), 14, 60, length=0)
+refused("T, sheet of the header alone", T, order(), 14, 60, length=24)
+refused("no room and no sheet: full", T, order(), 12, 3, label_words=30, length=0)
+refused("no room and no journey: full", T, order(w3=20699), 12, 2, label_words=20)
+refused("no journey and room for exactly its labels", T, order(w3=20699), 13, 3, label_words=30)
 refused("no journey and no sheet: no road", T, order(w3=20699), 13, 3, length=0)
 
 # --- source is target ----------------------------------------------------------------------------
 HOME = order(w0=2, w1=2, w2=77, w4=5, w5=6)
 planned("source is target", T, HOME, 1, (77, 5, 6), [])
-planned("source is target, 20 bytes and 9 words", T, HOME, 1, (77, 5, 6), [], label_words=9, length=20)
-refused("source is target, 19 bytes", T, HOME, 14, 20, length=19)
-refused("source is target, no label fits", T, HOME, 12, 0, label_words=8)
+planned("source is target, 24 bytes and 10 words", T, HOME, 1, (77, 5, 6), [], label_words=10, length=24)
+refused("source is target, 23 bytes", T, HOME, 14, 24, length=23)
+refused("source is target, no label fits", T, HOME, 12, 0, label_words=9)
 planned("source is target on a map without roads", chained([("A", NO_PARK)], []).bytes(), order(w1=1), 1, (0, 0, 0), [])
 LAST_SECOND = [2, 2, 2000000000, 2000000000] + EUROPE[4:]
 planned("departure at 2,000,000,000, source is target", T, order(LAST_SECOND), 1, (2000000000, 0, 0), [])
@@ -148,7 +149,7 @@ planned(
     (20000, 7300, 17300),
     [(DRIVE, 2, 10000), (BREAK, 2, 12700), (DRIVE, 3, 13000), (DRIVE, 4, 20000)],
 )
-refused("the slower lorry, one label too few", HOURS, order(ONE_TO_FOUR), 12, 5, label_words=53)
+refused("the slower lorry, one label too few", HOURS, order(ONE_TO_FOUR), 12, 5, label_words=59)
 planned("the faster lorry where the last road is short", trip_map([NO_PARK, PARK, NO_PARK, NO_PARK], [(1, 3, 10000), (1, 2, 10000), (2, 3, 300), (3, 4, 6200)]), order(ONE_TO_FOUR), 6, (16200, 16200, 16200), [(DRIVE, 1, 10000), (DRIVE, 4, 16200)])
 
 # --- ties -------------------------------------------------------------------------------------------
@@ -171,12 +172,12 @@ planned(
     (22700, 5000, 20000),
     [(DRIVE, 3, 15000), (BREAK, 3, 17700), (DRIVE, 4, 22700)],
 )
-planned("break as long as the rest: the rest clears more", T, order(w9=2700), 4, (20700, 7200, 7200), [(DRIVE, 1, 10800), (REST, 2, 13500), (DRIVE, 2, 20700)])
+planned("break as long as the rest: the rest clears more", T, order(w9=2700), 4, (20700, 7200, 7200, 18000), [(DRIVE, 1, 10800), (REST, 2, 13500), (DRIVE, 2, 20700)])
 
 # --- pauses -----------------------------------------------------------------------------------------
 AWAY = trip_map([PARK, PARK], [(1, 2, 10000)])
 planned("a break at source", AWAY, order(ONE_TO_TWO, w4=9000, w5=9000), 3, (12700, 10000, 19000), [(BREAK, 1, 2700), (DRIVE, 1, 12700)])
-planned("a rest at source", AWAY, order(ONE_TO_TWO, w5=32400), 3, (49600, 10000, 10000), [(REST, 1, 39600), (DRIVE, 1, 49600)])
+planned("a rest at source", AWAY, order(ONE_TO_TWO, w5=32400), 3, (49600, 10000, 10000, 42400), [(REST, 1, 39600), (DRIVE, 1, 49600)])
 planned("no pause at a target that is a car park", AWAY, order(ONE_TO_TWO), 2, (10000, 10000, 10000), [(DRIVE, 1, 10000)])
 refused("a tired driver where no car park is", trip_map([NO_PARK, PARK], [(1, 2, 10000)]), order(ONE_TO_TWO, w4=9000, w5=9000), 13, 1)
 refused("a break that ends after latest", AWAY, order(ONE_TO_TWO, w3=2699, w4=9000, w5=9000), 13, 1)
@@ -186,7 +187,7 @@ planned(
     CHAIN,
     order(ONE_TO_FOUR),
     9,
-    (74800, 100, 100),
+    (74800, 100, 100, 32500),
     [(DRIVE, 1, 16200), (BREAK, 2, 18900), (DRIVE, 2, 35100), (REST, 3, 74700), (DRIVE, 3, 74800)],
 )
 planned(
@@ -194,7 +195,7 @@ planned(
     CHAIN,
     order(ONE_TO_FOUR, w8=32399),
     7,
-    (74800, 100, 16300),
+    (74800, 100, 16300, 32500),
     [(DRIVE, 1, 16200), (REST, 2, 55800), (DRIVE, 2, 72000), (BREAK, 3, 74700), (DRIVE, 3, 74800)],
 )
 planned(
@@ -215,8 +216,8 @@ planned("a road that meets the shift limit with the hours behind", one_road(3600
 # With Europe's parts T has two labels more, at Lay with the mark: at 11,700 tired, at 14,400 after the break.
 T_PARTS = order(EUROPE_SPLIT)
 planned("T with Europe's parts", T, T_PARTS, 6, T_ANSWER, T_ROWS)
-planned("T with Europe's parts, 9N + 8 words", T, T_PARTS, 6, T_ANSWER, T_ROWS, label_words=62)
-refused("T with Europe's parts, 9N - 1 words", T, T_PARTS, 12, 5, label_words=53)
+planned("T with Europe's parts, 10N + 9 words", T, T_PARTS, 6, T_ANSWER, T_ROWS, label_words=69)
+refused("T with Europe's parts, 10N - 1 words", T, T_PARTS, 12, 5, label_words=59)
 planned("T with Europe's parts, latest 20,700", T, order(EUROPE_SPLIT, w3=20700), 6, T_ANSWER, T_ROWS)
 refused("T with Europe's parts, latest 20,699", T, order(EUROPE_SPLIT, w3=20699), 13, 5)
 T_SPLIT_ROWS = [(DRIVE, 1, 10800), (FIRST_PART, 2, 11700), (SECOND_PART, 2, 13499), (DRIVE, 2, 20699)]
@@ -251,7 +252,7 @@ planned(
 WHOLE_BREAK = [(DRIVE, 1, 4), (DRIVE, 2, 10), (BREAK, 3, 20), (DRIVE, 3, 25)]
 planned("the same trip without a split", ON_THE_WAY, order(SHORT_PARTS, w10=0, w11=0), 6, (25, 5, 15), WHOLE_BREAK)
 planned("parts together as long as the break: the break", ON_THE_WAY, order(SHORT_PARTS, w11=8), 10, (25, 5, 15), WHOLE_BREAK)
-refused("the split trip, a label short", ON_THE_WAY, order(SHORT_PARTS), 12, 9, label_words=89)
+refused("the split trip, a label short", ON_THE_WAY, order(SHORT_PARTS), 12, 9, label_words=99)
 
 # Two ways need a rest; on the shorter one, 2 seconds shorter, a first part of 2 seconds behind it leaves a state with the
 # mark and with the answer's figures. It ranks before the answer, whatever the numbers of their junctions.
@@ -261,14 +262,14 @@ for target, elsewhere in ((4, 5), (5, 4)):
         trip_map([NO_PARK, PARK, PARK, NO_PARK, NO_PARK], [(1, 2, 5), (2, target, 6), (1, 3, 3), (3, elsewhere, 6)]),
         order([1, target, 0, 21, 0, 0, 8, 4, 8, 10, 2, 3]),
         16,
-        (21, 6, 6),
+        (21, 6, 6, 11),
         [(DRIVE, 1, 5), (REST, 2, 15), (DRIVE, 2, 21)],
     )
 AT_SOURCE = [1, 2, 0, 100000, 9000, 9000] + EUROPE[6:10] + [900, 1700]
 planned("both parts at source", AWAY, order(AT_SOURCE), 5, (12600, 10000, 19000), [(FIRST_PART, 1, 900), (SECOND_PART, 1, 2600), (DRIVE, 1, 12600)])
 refused("a start carries no mark: the first part is needed too", AWAY, order(AT_SOURCE, w3=12599), 13, 4)
 refused("parts where no car park is", trip_map([NO_PARK, PARK], [(1, 2, 10000)]), order(AT_SOURCE), 13, 1)
-planned("a second part does not clear shift: the rest", AWAY, order([1, 2] + EUROPE_SPLIT[2:], w5=32400), 5, (49600, 10000, 10000), [(REST, 1, 39600), (DRIVE, 1, 49600)])
+planned("a second part does not clear shift: the rest", AWAY, order([1, 2] + EUROPE_SPLIT[2:], w5=32400), 5, (49600, 10000, 10000, 42400), [(REST, 1, 39600), (DRIVE, 1, 49600)])
 refused("every junction reached with the mark counts too", trip_map([PARK, NO_PARK, NO_PARK, NO_PARK], [(1, 2, 10), (2, 3, 10)]), order([1, 4] + EUROPE_SPLIT[2:]), 13, 6)
 planned("source is target, with a split", T, order([2, 2, 77, 100000, 5, 6] + EUROPE_SPLIT[6:]), 1, (77, 5, 6), [])
 
@@ -295,19 +296,20 @@ refused("bad road", in_t(76, 4), order(), 6, 1)
 refused("broken chain", in_t(80, 0), order(), 7, 3)
 refused("bad lettering", T[:-1] + b"\x7f", order(), 8, 132)
 refused("an order of 40 bytes", T, order()[:40], 9, 40)
-refused("an order of 47 bytes", T, order()[:-1], 9, 47)
-refused("an order of 49 bytes", T, order() + b"x", 9, 49)
+refused("an order of 48 bytes", T, order()[:48], 9, 48)
+refused("an order of 59 bytes", T, order()[:-1], 9, 59)
+refused("an order of 61 bytes", T, order() + b"x", 9, 61)
 refused("bad rules", T, order(w7=0), 10, 7)
 refused("bad trip", T, order(w1=4), 11, 1)
-refused("bad trip before full and short sheet", T, order(w4=16201, w5=16201), 11, 4, label_words=8, length=0)
-refused("bad lettering before bad order", T[:-1] + b"\x7f", b"", 8, 132, label_words=9, before=0)
+refused("bad trip before full and short sheet", T, order(w4=16201, w5=16201), 11, 4, label_words=9, length=0)
+refused("bad lettering before bad order", T[:-1] + b"\x7f", b"", 8, 132, label_words=10, before=0)
 
 # --- longer trips, from the other planner -------------------------------------------------------------
 LINE_END = [1, 40, 5, 44] + EUROPE[4:]
-computed("a line of forty junctions", 0, line(40), order(LINE_END), label_words=360, length=488)
-computed("a line of forty junctions, a label short", 12, line(40), order(LINE_END), label_words=359, length=488)
-computed("a line of forty junctions, a byte short", 14, line(40), order(LINE_END), label_words=360, length=487)
-computed("a line of forty junctions, a second short", 13, line(40), order(LINE_END, w3=43), label_words=360)
+computed("a line of forty junctions", 0, line(40), order(LINE_END), label_words=400, length=492)
+computed("a line of forty junctions, a label short", 12, line(40), order(LINE_END), label_words=399, length=492)
+computed("a line of forty junctions, a byte short", 14, line(40), order(LINE_END), label_words=400, length=491)
+computed("a line of forty junctions, a second short", 13, line(40), order(LINE_END, w3=43), label_words=400)
 PRACTICE = practice_map(60)
 for target, latest in ((15, 14000), (30, 12000), (60, 14000)):
     computed("a practice map of 60 junctions, 1 to %d" % target, 0, PRACTICE, order(w1=target, w3=latest))

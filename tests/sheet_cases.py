@@ -39,23 +39,23 @@ def both(title, trunk, orders, given, reply):
 
 
 # --- retiming that succeeds --------------------------------------------------------------------
-retime("T's plan, exact sheet", T, order(), TRUE, 56, "0 3 20700", TRUE)
-retime("false clocks and header are not read", T, order(), sheet([(1, 1, 9), (2, 2, 8), (1, 2, 7)], 1, 2, 3), 56, "0 3 20700", TRUE)
-retime("a longer sheet keeps its tail", T, order(), TRUE, 60, "0 3 20700", TRUE)
-retime("N is copied unjudged", T, order(), sheet(PLAN, labels=ALL_BITS), 56, "0 3 20700", sheet(PLAN, 20700, 7200, 18000, ALL_BITS))
-retime("a later departure", T, order(w2=100), TRUE, 56, "0 3 20800", sheet([(1, 1, 10900), (2, 2, 13600), (1, 2, 20800)], 20800, 7200, 18000))
-retime("a rest in place of the break", T, order(), sheet([(1, 1, 0), (3, 2, 0), (1, 2, 0)]), 56, "0 3 57600", sheet([(1, 1, 10800), (3, 2, 50400), (1, 2, 57600)], 57600, 7200, 7200))
-retime("two breaks in a row", T, order(), sheet([(1, 1, 0), (2, 2, 0), (2, 2, 0), (1, 2, 0)]), 68, "0 4 23400", sheet([(1, 1, 10800), (2, 2, 13500), (2, 2, 16200), (1, 2, 23400)], 23400, 7200, 18000))
-retime("break then rest clears both", T, order(), sheet([(1, 1, 0), (2, 2, 0), (3, 2, 0), (1, 2, 0)]), 68, "0 4 60300", sheet([(1, 1, 10800), (2, 2, 13500), (3, 2, 53100), (1, 2, 60300)], 60300, 7200, 7200))
-retime("no moves, source is target", LOOP, order(HOME), sheet([]), 20, "0 0 7", sheet([], 7, 5, 6))
-retime("a pause at source", LOOP, order(HOME), sheet([(2, 1, 0)]), 32, "0 1 2707", sheet([(2, 1, 2707)], 2707, 0, 6))
-retime("a rest at source", LOOP, order(HOME), sheet([(3, 1, 0)]), 32, "0 1 39607", sheet([(3, 1, 39607)], 39607, 0, 0))
-retime("a road to its own junction", LOOP, order(HOME), sheet([(1, 1, 0)]), 32, "0 1 57", sheet([(1, 1, 57)], 57, 55, 56))
-retime("a sheet of road times rounded up", ROUNDED_LOOP, order(HOME), sheet([(1, 1, 58)], 58, 56, 57), 32, "0 1 57", sheet([(1, 1, 57)], 57, 55, 56))
-retime("through target and on", LOOP, order(HOME), sheet([(1, 1, 0), (2, 1, 0), (1, 1, 0)]), 56, "0 3 2807", sheet([(1, 1, 57), (2, 1, 2757), (1, 1, 2807)], 2807, 50, 106))
-retime("arrival at latest", T, order(w3=20700), TRUE, 56, "0 3 20700", TRUE)
-retime("spell at its limit", T, order(w6=10800), TRUE, 56, "0 3 20700", TRUE)
-retime("shift at its limit", T, order(w8=18000), TRUE, 56, "0 3 20700", TRUE)
+retime("T's plan, exact sheet", T, order(), TRUE, 60, "0 3 20700", TRUE)
+retime("false clocks and header are not read", T, order(), sheet([(1, 1, 9), (2, 2, 8), (1, 2, 7)], 1, 2, 3), 60, "0 3 20700", TRUE)
+retime("a longer sheet keeps its tail", T, order(), TRUE, 64, "0 3 20700", TRUE)
+retime("N is copied unjudged", T, order(), sheet(PLAN, labels=ALL_BITS), 60, "0 3 20700", sheet(PLAN, 20700, 7200, 18000, ALL_BITS))
+retime("a later departure", T, order(w2=100), TRUE, 60, "0 3 20800", sheet([(1, 1, 10900), (2, 2, 13600), (1, 2, 20800)], 20800, 7200, 18000))
+retime("a rest in place of the break", T, order(), sheet([(1, 1, 0), (3, 2, 0), (1, 2, 0)]), 60, "0 3 57600", sheet([(1, 1, 10800), (3, 2, 50400), (1, 2, 57600)], 57600, 7200, 7200, week=18000))
+retime("two breaks in a row", T, order(), sheet([(1, 1, 0), (2, 2, 0), (2, 2, 0), (1, 2, 0)]), 72, "0 4 23400", sheet([(1, 1, 10800), (2, 2, 13500), (2, 2, 16200), (1, 2, 23400)], 23400, 7200, 18000))
+retime("break then rest clears both", T, order(), sheet([(1, 1, 0), (2, 2, 0), (3, 2, 0), (1, 2, 0)]), 72, "0 4 60300", sheet([(1, 1, 10800), (2, 2, 13500), (3, 2, 53100), (1, 2, 60300)], 60300, 7200, 7200, week=18000))
+retime("no moves, source is target", LOOP, order(HOME), sheet([]), 24, "0 0 7", sheet([], 7, 5, 6))
+retime("a pause at source", LOOP, order(HOME), sheet([(2, 1, 0)]), 36, "0 1 2707", sheet([(2, 1, 2707)], 2707, 0, 6))
+retime("a rest at source", LOOP, order(HOME), sheet([(3, 1, 0)]), 36, "0 1 39607", sheet([(3, 1, 39607)], 39607, 0, 0, week=6))
+retime("a road to its own junction", LOOP, order(HOME), sheet([(1, 1, 0)]), 36, "0 1 57", sheet([(1, 1, 57)], 57, 55, 56))
+retime("a sheet of road times rounded up", ROUNDED_LOOP, order(HOME), sheet([(1, 1, 58)], 58, 56, 57), 36, "0 1 57", sheet([(1, 1, 57)], 57, 55, 56))
+retime("through target and on", LOOP, order(HOME), sheet([(1, 1, 0), (2, 1, 0), (1, 1, 0)]), 60, "0 3 2807", sheet([(1, 1, 57), (2, 1, 2757), (1, 1, 2807)], 2807, 50, 106))
+retime("arrival at latest", T, order(w3=20700), TRUE, 60, "0 3 20700", TRUE)
+retime("spell at its limit", T, order(w6=10800), TRUE, 60, "0 3 20700", TRUE)
+retime("shift at its limit", T, order(w8=18000), TRUE, 60, "0 3 20700", TRUE)
 
 # --- audit that succeeds -----------------------------------------------------------------------
 audit("T's plan audits", T, order(), TRUE, "0 3 20700")
@@ -66,7 +66,7 @@ audit("a road time rounded down", ROUNDED_LOOP, order(HOME), sheet([(1, 1, 57)],
 audit("2.5 seconds are 2", loop(25, 36), order(HOME), sheet([(1, 1, 9)], 9, 7, 8), "0 1 9")
 audit("3.5 seconds are 4", loop(35, 36), order(HOME), sheet([(1, 1, 11)], 11, 9, 10), "0 1 11")
 audit("0.5 seconds are 1", loop(5, 36), order(HOME), sheet([(1, 1, 8)], 8, 6, 7), "0 1 8")
-audit("a sheet that is not the first to arrive audits", T, order(), sheet([(1, 1, 10800), (3, 2, 50400), (1, 2, 57600)], 57600, 7200, 7200), "0 3 57600")
+audit("a sheet that is not the first to arrive audits", T, order(), sheet([(1, 1, 10800), (3, 2, 50400), (1, 2, 57600)], 57600, 7200, 7200, week=18000), "0 3 57600")
 
 # --- refusals 1 to 11 before the sheet is looked at ----------------------------------------------
 both("short map", T[:3], order(), TRUE, "1 3 0")
@@ -79,12 +79,12 @@ both("bad trip and torn sheet: the trip", T, order(w1=9), b"", "11 1 0")
 # --- 15 torn sheet -------------------------------------------------------------------------------
 both("empty sheet", T, order(), b"", "15 0 0")
 both("19 bytes", T, order(), TRUE[:19], "15 19 0")
-both("one byte too long", T, order(), TRUE + b"x", "15 57 0")
-both("one byte too short", T, order(), TRUE[:-1], "15 55 0")
-both("M above 999,999", T, order(), sheet(PLAN, moves=1000000), "15 56 0")
-both("20 + 12M wraps to the length", T, order(), sheet(PLAN, moves=357913942 + 2), "15 56 0")
-both("M 0 with a record", T, order(), sheet(PLAN[:1], moves=0), "15 32 0")
-both("M one more than the records", T, order(), sheet(PLAN, moves=4), "15 56 0")
+both("one byte too long", T, order(), TRUE + b"x", "15 61 0")
+both("one byte too short", T, order(), TRUE[:-1], "15 59 0")
+both("M above 999,999", T, order(), sheet(PLAN, moves=1000000), "15 60 0")
+both("24 + 12M wraps to the length", T, order(), sheet(PLAN, moves=3 + (1 << 30)), "15 60 0")
+both("M 0 with a record", T, order(), sheet(PLAN[:1], moves=0), "15 36 0")
+both("M one more than the records", T, order(), sheet(PLAN, moves=4), "15 60 0")
 
 # --- 16 foreign move -----------------------------------------------------------------------------
 both("kind 0 first", T, order(), sheet([(0, 1, 10800)] + PLAN[1:], 20700, 7200, 18000), "16 1 0")
@@ -123,9 +123,9 @@ both("ends at Lay", T, order(), sheet(PLAN[:2], 13500, 0, 10800), "19 2 0")
 both("no moves, source is not target", T, order(), sheet([]), "19 1 0")
 both("stray with a false header: stray", T, order(), sheet(PLAN[:1], 9, 9, 9), "19 2 0")
 retime("stray and short sheet: stray", T, order(), sheet(PLAN[:1]), 0, "19 2 0")
-retime("short by one byte", T, order(), TRUE, 55, "14 56 0")
-retime("no sheet at all", T, order(), TRUE, 0, "14 56 0")
-retime("no moves, 19 bytes", LOOP, order(HOME), sheet([]), 19, "14 20 0")
+retime("short by one byte", T, order(), TRUE, 59, "14 60 0")
+retime("no sheet at all", T, order(), TRUE, 0, "14 60 0")
+retime("no moves, 23 bytes", LOOP, order(HOME), sheet([]), 23, "14 24 0")
 
 # --- the split break (document 02, P5) -------------------------------------------------------------
 SPLIT = order(EUROPE_SPLIT)
@@ -134,9 +134,9 @@ BY_PARTS = sheet(PARTS, 20700, 7200, 18000)
 AT_HOME = HOME[:10] + EUROPE_SPLIT[10:]
 
 
-def timed(title, trunk, orders, rows, arrival, spell, shift):
+def timed(title, trunk, orders, rows, arrival, spell, shift, week=None):
     """Moves that retiming writes, whatever clocks it is given, and that audit accepts."""
-    written = sheet(rows, arrival, spell, shift)
+    written = sheet(rows, arrival, spell, shift, week=week)
     given = sheet([(kind, number, 0) for kind, number, _ in rows])
     reply = "0 %d %d" % (len(rows), arrival)
     retime("retime: " + title, trunk, orders, given, len(written), reply, written)
@@ -156,7 +156,7 @@ timed("a first part leaves spell", T, order(EUROPE_SPLIT, w6=18000), [(DRIVE, 1,
 timed("a first part with the mark set already", T, SPLIT, PARTS[:2] + [(FIRST_PART, 2, 12600), (SECOND_PART, 2, 14400), (DRIVE, 2, 21600)], 21600, 7200, 18000)
 timed("first, second, first, second", T, SPLIT, PARTS[:3] + [(FIRST_PART, 2, 14400), (SECOND_PART, 2, 16200), (DRIVE, 2, 23400)], 23400, 7200, 18000)
 timed("a break clears spell with the mark", T, SPLIT, PARTS[:2] + [(BREAK, 2, 14400), (DRIVE, 2, 21600)], 21600, 7200, 18000)
-timed("a rest clears both with the mark", T, SPLIT, PARTS[:2] + [(REST, 2, 51300), (DRIVE, 2, 58500)], 58500, 7200, 7200)
+timed("a rest clears both with the mark", T, SPLIT, PARTS[:2] + [(REST, 2, 51300), (DRIVE, 2, 58500)], 58500, 7200, 7200, 18000)
 timed("a first part again after a break", T, SPLIT, PARTS[:2] + [(BREAK, 2, 14400), (FIRST_PART, 2, 15300), (SECOND_PART, 2, 17100), (DRIVE, 2, 24300)], 24300, 7200, 18000)
 timed("a drive keeps the mark", LOOP, order(AT_HOME), [(FIRST_PART, 1, 907), (DRIVE, 1, 957), (SECOND_PART, 1, 2757)], 2757, 0, 56)
 timed("two drives keep the mark", LOOP, order(AT_HOME), [(FIRST_PART, 1, 907), (DRIVE, 1, 957), (DRIVE, 1, 1007), (SECOND_PART, 1, 2807)], 2807, 0, 106)
@@ -178,7 +178,7 @@ foreign("a first part of another number", T, SPLIT, [PARTS[0], (FIRST_PART, 1, 1
 foreign("a second part of another number", T, SPLIT, PARTS[:2] + [(SECOND_PART, 3, 13500)], 3)
 foreign("a first part of number 0", T, SPLIT, [PARTS[0], (FIRST_PART, 0, 11700)], 2)
 foreign("a second part of number all bits", T, SPLIT, PARTS[:2] + [(SECOND_PART, ALL_BITS, 13500)], 3)
-foreign("kind 6 with a split", T, SPLIT, [PARTS[0], (6, 2, 11700)], 2)
+foreign("kind 7 with a split", T, SPLIT, [PARTS[0], (7, 2, 11700)], 2)
 foreign("kind 0 with the mark", T, SPLIT, PARTS[:2] + [(0, 2, 11700)], 3)
 foreign("kind 260, a first part by its low byte", T, SPLIT, [PARTS[0], (260, 2, 11700)], 2)
 

@@ -1,12 +1,13 @@
 """Worked cases of replaying a trace.
 
-The expected replies and figures are written here by hand from document 02 (P3 and P5); nothing is taken from the program.
+The expected replies and figures are written here by hand from document 02 (P3, P5 and P7); nothing is taken from the program.
 """
 from case_files import case
 from formats import ALL_BITS, DRIVING, EUROPE, EUROPE_SPLIT, PAUSE, WORK, trace, words
 
 EUROPEAN = tuple(EUROPE[6:10])  # spell limit 16,200, break 2,700, shift limit 32,400, rest 39,600
-PARTS = tuple(EUROPE_SPLIT[6:])  # the same and parts of 900 and 1,800
+PARTS = tuple(EUROPE_SPLIT[6:12])  # the same and parts of 900 and 1,800
+WEEK_LIMIT, WEEKLY_REST = EUROPE[12:14]  # 201,600 and 162,000
 LEAST = (1, 1, 1, 1)
 GREATEST = (1000000, 1000000, 1000000, 1000000)
 FRESH = (0, 0)  # spell, shift
@@ -14,22 +15,37 @@ TIRED = (16200, 32400)  # both at their limits
 MOST = 1000000  # the most seconds of a record
 
 
-def replay(title, given, before, rules, reply, after):
-    """In the order's place stand its words 4 to 11, in the number's the mark and in the sheet's the trace; the figures
-    afterwards are printed too. Rules of four words have no split, and two figures no mark."""
-    (spell, shift, mark), after = [figures + (0,) * (3 - len(figures)) for figures in (before, after)]
+def whole(rules):
+    """Rules of four words have no split. Those without a week take Europe's, or the shortest one that the others allow."""
     rules += (0,) * (6 - len(rules))
-    case("t", title, "%s %d %d %d" % (reply, *after), number=mark, order=words(spell, shift, *rules), sheet=given)
+    return rules if len(rules) == 8 else rules + (max(WEEK_LIMIT, rules[2]), max(WEEKLY_REST, rules[3]))
 
 
-def replayed(title, records, before, after, rules=EUROPEAN):
-    """Every record is taken."""
-    replay(title, trace(records), before, rules, "0 %d 0" % len(records), after)
+def in_week(figures, week):
+    """Spell, shift, week and mark, of two figures without a mark or of three with it."""
+    spell, shift, *mark = figures
+    return spell, shift, week, *(mark or [0])
+
+
+def replay(title, given, before, rules, reply, after):
+    """In the order's place stand its words 4 to 14, in the number's the mark and in the sheet's the trace; the figures
+    afterwards, spell, shift, week and mark, are printed too."""
+    spell, shift, week, mark = before
+    hours = words(spell, shift, *whole(rules), week)
+    case("t", title, "%s %d %d %d %d" % (reply, *after), number=mark, order=hours, sheet=given)
+
+
+def replayed(title, records, before, after, rules=EUROPEAN, week=None):
+    """Every record is taken. The week starts as the shift, and gains what is driven if it is not told."""
+    driven = sum(seconds for activity, seconds in records if activity == DRIVING)
+    after = in_week(after, before[1] + driven if week is None else week)
+    replay(title, trace(records), in_week(before, before[1]), rules, "0 %d 0" % len(records), after)
 
 
 def refused(title, records, number, place, before=FRESH, rules=EUROPEAN):
     """The figures stay."""
     given = records if isinstance(records, bytes) else trace(records)
+    before = in_week(before, before[1])
     replay(title, given, before, rules, "%d %d 0" % (number, place), before)
 
 
@@ -44,7 +60,7 @@ replayed("other work changes nothing", [(WORK, 100)], (15, 20), (15, 20))
 replayed("other work as long as a break clears nothing", [(WORK, 2700)], (15, 20), (15, 20))
 replayed("other work as long as a rest clears nothing", [(WORK, 39600)], (15, 20), (15, 20))
 replayed("the longest other work", [(WORK, MOST)], TIRED, TIRED)
-replayed("the longest pause", [(PAUSE, MOST)], TIRED, (0, 0))
+replayed("the longest pause", [(PAUSE, MOST)], TIRED, (0, 0), week=0)
 replayed("the shortest of each", [(WORK, 1), (DRIVING, 1), (PAUSE, 1)], (15, 20), (16, 21))
 
 # --- how long a pause must be ----------------------------------------------------------------------
@@ -59,7 +75,7 @@ replayed("break and rest equally long", [(PAUSE, 2700)], TIRED, (0, 0), (16200, 
 replayed("a rest of a fresh driver", [(PAUSE, 39600)], FRESH, FRESH)
 replayed("the shortest pauses there may be", [(PAUSE, 1)], (1, 1), (0, 0), LEAST)
 replayed("the longest break and rest, one second less", [(PAUSE, 999999)], (15, 20), (15, 20), GREATEST)
-replayed("the longest break and rest", [(PAUSE, MOST)], (15, 20), (0, 0), GREATEST)
+replayed("the longest break and rest", [(PAUSE, MOST)], (15, 20), (0, 0), GREATEST, week=0)
 
 # --- neighbouring pauses are one -------------------------------------------------------------------
 replayed("two pauses that make a break", [(PAUSE, 1200), (PAUSE, 1500)], TIRED, (0, 32400))
@@ -73,8 +89,8 @@ replayed("a break and a second more make a rest", [(PAUSE, 39599), (PAUSE, 1)], 
 replayed("a rest that goes on", [(PAUSE, 39600), (PAUSE, 1)], TIRED, (0, 0))
 replayed("pauses that make a rest before driving", [(PAUSE, 19800), (PAUSE, 19800), (DRIVING, 9)], TIRED, (9, 9))
 replayed("many pauses of a second make a break", [(PAUSE, 1)] * 27, (15, 20), (0, 20), (16200, 27, 32400, 28))
-replayed("two pauses that make the longest rest", [(PAUSE, 500000), (PAUSE, 500000)], (15, 20), (0, 0), GREATEST)
-replayed("pauses of 2 to the 32nd seconds", [(PAUSE, MOST)] * 4294 + [(PAUSE, 967296)], TIRED, (0, 0))
+replayed("two pauses that make the longest rest", [(PAUSE, 500000), (PAUSE, 500000)], (15, 20), (0, 0), GREATEST, week=0)
+replayed("pauses of 2 to the 32nd seconds", [(PAUSE, MOST)] * 4294 + [(PAUSE, 967296)], TIRED, (0, 0), week=0)
 
 # --- what ends a pause -----------------------------------------------------------------------------
 replayed("other work ends a pause", [(PAUSE, 1350), (WORK, 1), (PAUSE, 1350)], TIRED, TIRED)
@@ -190,8 +206,8 @@ UNMARKED, MARKED = (15, 20, 0), (15, 20, 1)
 BROKEN = (0, 20, 0)  # spell and mark cleared
 
 
-def split(title, records, before, after):
-    replayed("split: " + title, records, before, after, PARTS)
+def split(title, records, before, after, week=None):
+    replayed("split: " + title, records, before, after, PARTS, week)
 
 
 split("an empty trace leaves the mark", [], MARKED, MARKED)
@@ -212,8 +228,9 @@ for seconds, unmarked, marked in (
     (39600, (0, 0, 0), (0, 0, 0)),
     (MOST, (0, 0, 0), (0, 0, 0)),
 ):
-    split("unmarked, a pause of %d" % seconds, [(PAUSE, seconds)], UNMARKED, unmarked)
-    split("marked, a pause of %d" % seconds, [(PAUSE, seconds)], MARKED, marked)
+    week = 0 if seconds == MOST else 20
+    split("unmarked, a pause of %d" % seconds, [(PAUSE, seconds)], UNMARKED, unmarked, week)
+    split("marked, a pause of %d" % seconds, [(PAUSE, seconds)], MARKED, marked, week)
 
 # A pause is judged whole, with the mark from before it.
 split("neighbours of 900 are one pause of 1,800", [(PAUSE, 900), (PAUSE, 900)], UNMARKED, MARKED)
