@@ -6,7 +6,7 @@ def small_trip(dice):
     """A map of a few junctions and an order on it; short limits and few different road times make pauses and ties.
 
     About every second road takes half a second more than a whole number, before rounding. Two of three orders have a
-    split break.
+    split break. The week limit is near the shift limit, so that some plans have a weekly rest.
     """
     count = dice.randint(1, 7)
     junctions = [("".join(dice.choices("ab c", k=dice.randint(1, 4))), dice.random() < 0.6) for _ in range(count)]
@@ -19,10 +19,12 @@ def small_trip(dice):
     parts = dice.choice([(0, 0), (1, 1), (dice.randint(1, break_time), dice.randint(1, break_time))])
     shift = dice.choice([0, dice.randint(0, shift_limit)])
     spell = dice.randint(0, min(shift, spell_limit))
+    week_limit, weekly_rest = shift_limit + dice.randint(0, 12), rest_time + dice.randint(0, 8)
+    week = dice.choice([shift, dice.randint(shift, week_limit)])
     departure = dice.choice([0, dice.randint(0, 1999999900)])
     target = dice.choice([count, dice.randint(1, count)])
     trip = [dice.randint(1, (count + 1) // 2), target, departure, departure + dice.randint(0, 70)]
-    hours = [spell, shift, spell_limit, break_time, shift_limit, rest_time, *parts]
+    hours = [spell, shift, spell_limit, break_time, shift_limit, rest_time, *parts, week_limit, weekly_rest, week]
     return chained(junctions, roads).bytes(), order(trip + hours)
 
 
