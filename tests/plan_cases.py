@@ -5,7 +5,8 @@ number is written by hand, and the other planner gives the rest. Nothing is take
 roads come back to a junction, latest is near, since the other planner lists every reachable state.
 """
 from case_files import case
-from formats import ALL_BITS, BREAK, DRIVE, EUROPE, EUROPE_SPLIT, FIRST_PART, REST, SECOND_PART, chained, map_t, order, sheet, words
+from formats import ALL_BITS, BREAK, DRIVE, EUROPE, EUROPE_SPLIT, FIRST_PART, REST, SECOND_PART, WEEKLY_REST
+from formats import chained, map_t, order, sheet, words
 from made_trips import line, practice_map
 
 T = map_t().bytes()
@@ -272,6 +273,86 @@ refused("parts where no car park is", trip_map([NO_PARK, PARK], [(1, 2, 10000)])
 planned("a second part does not clear shift: the rest", AWAY, order([1, 2] + EUROPE_SPLIT[2:], w5=32400), 5, (49600, 10000, 10000, 42400), [(REST, 1, 39600), (DRIVE, 1, 49600)])
 refused("every junction reached with the mark counts too", trip_map([PARK, NO_PARK, NO_PARK, NO_PARK], [(1, 2, 10), (2, 3, 10)]), order([1, 4] + EUROPE_SPLIT[2:]), 13, 6)
 planned("source is target, with a split", T, order([2, 2, 77, 100000, 5, 6] + EUROPE_SPLIT[6:]), 1, (77, 5, 6), [])
+
+# --- the week (document 02, P7) -----------------------------------------------------------------------
+# Two roads of 6 seconds and a week limit of 10: after a rest of 3 the second road would make the week 12, and so the
+# weekly rest of 5 is taken. Labels: A; B at 6, after a break at 7, a rest at 9 and a weekly rest at 11; C at 17.
+SIXES = trip_map([NO_PARK, PARK, NO_PARK], [(1, 2, 6), (2, 3, 6)])
+TEN = [1, 3, 0, 17, 0, 0, 6, 1, 6, 3, 0, 0, 10, 5, 0]
+BY_WEEKLY = [(DRIVE, 1, 6), (WEEKLY_REST, 2, 11), (DRIVE, 2, 17)]
+planned("a weekly rest where a rest is not enough", SIXES, order(TEN), 6, (17, 6, 6), BY_WEEKLY)
+refused("a weekly rest, latest a second before the arrival", SIXES, order(TEN, w3=16), 13, 5)
+refused("a weekly rest, a label short", SIXES, order(TEN), 12, 5, label_words=59)
+planned("week limit one second below both roads", SIXES, order(TEN, w12=11), 6, (17, 6, 6), BY_WEEKLY)
+planned("week limit of both roads: a rest", SIXES, order(TEN, w12=12), 6, (15, 6, 6, 12), [(DRIVE, 1, 6), (REST, 2, 9), (DRIVE, 2, 15)])
+planned("week limit met at the car park", SIXES, order(TEN, w14=4), 6, (17, 6, 6), BY_WEEKLY)
+refused("week limit a second short of the car park", SIXES, order(TEN, w14=5), 13, 1)
+planned("weekly rest as long as the rest: it clears more", SIXES, order(TEN, w12=12, w13=3), 5, (15, 6, 6), [(DRIVE, 1, 6), (WEEKLY_REST, 2, 9), (DRIVE, 2, 15)])
+planned("all pauses equally long: the weekly rest clears most", SIXES, order(TEN, w7=3, w12=12, w13=3), 4, (15, 6, 6), [(DRIVE, 1, 6), (WEEKLY_REST, 2, 9), (DRIVE, 2, 15)])
+
+# With 183,600 of the week driven T takes the 18,000 that are left. With more, up to 190,800, it takes them to Lay alone:
+# 10,800 + 162,000 + 7,200 = 180,000.
+LATE_ROWS = [(DRIVE, 1, 10800), (WEEKLY_REST, 2, 172800), (DRIVE, 2, 180000)]
+LATE_ANSWER = (180000, 7200, 7200)
+planned("T with 18,000 seconds of the week left", T, order(w3=180000, w14=183600), 4, (20700, 7200, 18000, 201600), T_ROWS)
+planned("T with 17,999 seconds of the week left", T, order(w3=180000, w14=183601), 6, LATE_ANSWER, LATE_ROWS)
+planned("T with 10,800 seconds of the week left", T, order(w3=180000, w14=190800), 6, LATE_ANSWER, LATE_ROWS)
+refused("T with a weekly rest, latest 179,999", T, order(w3=179999, w14=190800), 13, 5)
+refused("T with 10,799 seconds of the week left", T, order(w3=180000, w14=190801), 13, 1)
+# A label with the mark more after each of reaching Lay, break, rest and weekly rest.
+planned("T late in the week with Europe's parts", T, order(EUROPE_SPLIT, w3=180000, w14=190800), 10, LATE_ANSWER, LATE_ROWS)
+planned("a weekly rest at source", AWAY, order(ONE_TO_TWO, w3=172000, w14=201600), 3, (172000, 10000, 10000), [(WEEKLY_REST, 1, 162000), (DRIVE, 1, 172000)])
+refused("a full week where no car park is", trip_map([NO_PARK, PARK], [(1, 2, 10000)]), order(ONE_TO_TWO, w3=172000, w14=201600), 13, 1)
+planned("source is target with a full week", T, order(w0=2, w1=2, w2=77, w4=5, w5=6, w14=201600), 1, (77, 5, 6, 201600), [])
+
+# Seven roads of nine hours, each a whole shift, are 226,800 seconds: more than a week. With rests between them car park j
+# is reached at 32,400 (j - 1) + 39,600 (j - 2), and H at 464,400. One rest must be weekly, 122,400 longer; at G it leaves
+# the lowest week. Labels: A; at B reached, after a break, a rest and a weekly rest; at C to G the same and, with the
+# weekly rest at the car park before, reached and after a break; H.
+SEVEN_SHIFTS = trip_map([NO_PARK] + [PARK] * 6 + [NO_PARK], [(j, j + 1, 32400) for j in range(1, 8)])
+WEEK_AND_MORE = [1, 8, 0, 586800, 0, 0, 32400] + EUROPE[7:]
+
+
+def shifts(last_pause):
+    """A rest at each car park but the last, where this pause ends at that second before the last road."""
+    rows = []
+    for j in range(1, 7):
+        reached = 72000 * j - 39600
+        rows += [(DRIVE, j, reached), (REST, j + 1, reached + 39600)]
+    kind, clock = last_pause
+    return rows[:-1] + [(kind, 7, clock), (DRIVE, 7, clock + 32400)]
+
+
+planned("more than a week of driving: a weekly rest", SEVEN_SHIFTS, order(WEEK_AND_MORE), 36, (586800, 32400, 32400), shifts((WEEKLY_REST, 554400)))
+refused("more than a week of driving, latest a second before the arrival", SEVEN_SHIFTS, order(WEEK_AND_MORE, w3=586799), 13, 35, label_words=350)
+# Latest 464,400 leaves no time for a weekly rest at F and G, nor at F for G.
+planned("the same in an endless week: rests alone", SEVEN_SHIFTS, order(WEEK_AND_MORE, w3=464400, w12=1000000), 32, (464400, 32400, 32400, 226800), shifts((REST, 432000)))
+
+# C is reached at 4 with 12 of the week, and by way of the car park B after a weekly rest at 11 with 1: only the slower
+# lorry may drive on for 5. After a break at B it is there at 7, after a rest at 8.
+planned(
+    "the slower lorry that keeps its week",
+    trip_map([NO_PARK, PARK, NO_PARK, NO_PARK], [(1, 3, 4), (1, 2, 4), (2, 3, 1), (3, 4, 5)]),
+    order([1, 4, 0, 16, 0, 0, 15, 2, 15, 3, 0, 0, 15, 6, 8]),
+    10,
+    (16, 6, 6),
+    [(DRIVE, 2, 4), (WEEKLY_REST, 2, 10), (DRIVE, 3, 11), (DRIVE, 4, 16)],
+)
+
+# Of the week 9 seconds are left. The longer way takes the weekly rest and ends at 16; on the shorter one a rest and a first
+# part end at 16 too, with the mark and a higher week: it ranks behind the answer, whatever the numbers of their junctions.
+for target, elsewhere in ((4, 5), (5, 4)):
+    planned(
+        "the lower week first: target %d, marked at %d" % (target, elsewhere),
+        trip_map([NO_PARK, PARK, PARK, NO_PARK, NO_PARK], [(1, 2, 4), (2, target, 6), (1, 3, 3), (3, elsewhere, 6)]),
+        order([1, target, 0, 16, 0, 0, 6, 3, 6, 5, 2, 3, 15, 6, 6]),
+        20,
+        (16, 6, 6),
+        [(DRIVE, 1, 4), (WEEKLY_REST, 2, 10), (DRIVE, 2, 16)],
+    )
+refused("week limit below the shift limit", T, order(w12=32399), 10, 12)
+refused("weekly rest shorter than the rest", T, order(w13=39599), 10, 13)
+refused("week above its limit, no space", T, order(w14=201601), 11, 14, label_words=0, length=0)
 
 # --- roads to their own junction --------------------------------------------------------------------
 planned("roads to their own junction are no labels", trip_map([PARK, NO_PARK], [(1, 1, 10), (1, 2, 100), (2, 2, 10), (1, 1, 5)]), order(ONE_TO_TWO, w3=150), 2, (100, 100, 100), [(DRIVE, 2, 100)])

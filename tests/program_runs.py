@@ -78,11 +78,15 @@ run("empty files", "refused 1 0\n", b"", b"")
 run("a bad road", "refused 6 2\n", bad_road(), order())
 run("a broken map comes before a missing order", "refused 4 133\n", T + b"x")
 run("an order of 40 bytes", "refused 9 40\n", T, order()[:40])
+run("an order of 48 bytes", "refused 9 48\n", T, order()[:48])
 run("an order of 61 bytes", "refused 9 61\n", T, order() + b"x")
 run("an order of 5,000 bytes", "refused 9 5000\n", T, b"x" * 5000)
 run("bad rules", "refused 10 9\n", T, order(w9=0))
 run("a lone zero part", "refused 10 11\n", T, order(w10=900))
 run("bad trip", "refused 11 0\n", T, order(w0=4))
+run("a week limit below the shift limit", "refused 10 12\n", T, order(w12=32399))
+run("a weekly rest shorter than the rest", "refused 10 13\n", T, order(w13=39599))
+run("a week above its limit", "refused 11 14\n", T, order(w14=201601))
 
 # --- reads that are short or fail ----------------------------------------------------------------------
 # One failure makes the file empty, whatever the reads after it say. No file does so when asked; any row of short, failed
@@ -129,6 +133,14 @@ drive 2 End 20699
 arrive 20699 7200 18000 labels 6
 """
 run("a first and a second part", SPLIT_LISTING, T, order(EUROPE_SPLIT, w11=1799))
+WEEKLY_LISTING = """\
+drive 1 Lay 10800
+weekly 2 Lay 172800
+drive 2 End 180000
+arrive 180000 7200 7200 labels 6
+"""
+run("a weekly rest", WEEKLY_LISTING, T, order(w3=180000, w14=190800))
+run("a weekly rest that ends too late", "refused 13 5\n", T, order(w3=179999, w14=190800))
 run("T with Europe's parts", T_LISTING.replace("labels 4", "labels 6"), T, order(EUROPE_SPLIT))
 run("one name for two junctions", "drive 1 Elgstrup 1\narrive 1 1 1 labels 2\n", Map([[1, 0, 0, 8], [0, 0, 0, 8]], [[1, 2, 1, 130, 0]], b"Elgstrup").bytes(), order(w1=2))
 LINE_LISTING = "".join("drive %d x %d\n" % (k, k) for k in range(1, 1600)) + "arrive 1599 1599 1599 labels 1600\n"

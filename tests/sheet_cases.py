@@ -4,7 +4,7 @@ The expected replies and figures are written here by hand from documents 01 and 
 from the program.
 """
 from case_files import case
-from formats import ALL_BITS, BREAK, DRIVE, EUROPE_SPLIT, FIRST_PART, REST, SECOND_PART, Map, map_t, order, sheet, words
+from formats import ALL_BITS, BREAK, DRIVE, EUROPE_SPLIT, FIRST_PART, REST, SECOND_PART, WEEKLY_REST, Map, map_t, order, sheet, words
 
 T = map_t().bytes()
 
@@ -193,3 +193,61 @@ audit("false spell after a first part", LOOP, order(AT_HOME), sheet([(FIRST_PART
 audit("false shift after a second part", LOOP, order(AT_HOME), sheet([(FIRST_PART, 1, 907), (SECOND_PART, 1, 2707)], 2707, 0, 0), "18 3 0")
 both("a lone zero part and torn sheet: the part", T, order(w11=1800), b"", "10 10 0")
 both("an order of 40 bytes", T, order()[:40], TRUE, "9 40 0")
+
+# --- the week (document 02, P7): at byte 16 of a sheet, N at byte 20 and the records from byte 24 on -------------
+WEEKLY = [(DRIVE, 1, 10800), (WEEKLY_REST, 2, 172800), (DRIVE, 2, 180000)]
+RESTED = [(DRIVE, 1, 10800), (REST, 2, 50400), (DRIVE, 2, 57600)]
+LATE = order(w3=180000, w14=190800)  # 10,800 seconds of the week are left, just enough for Lay
+LONG = [1, 1, 7, 400000] + AT_HOME[4:14] + [50]  # from and to the loop's junction, in a week of 50 seconds
+
+timed("a weekly rest at Lay", T, LATE, WEEKLY, 180000, 7200, 7200, 7200)
+timed("the week gains both drives", T, order(w14=100), PLAN, 20700, 7200, 18000, 18100)
+timed("a rest leaves the week", T, order(w14=100), RESTED, 57600, 7200, 7200, 18100)
+timed("week at its limit", T, order(w14=183600), PLAN, 20700, 7200, 18000, 201600)
+timed("week and shift at one limit", T, order(w8=18000, w12=18000), PLAN, 20700, 7200, 18000, 18000)
+timed("a weekly rest as long as the rest", T, order(w13=39600, w14=100), [PLAN[0], (WEEKLY_REST, 2, 50400), RESTED[2]], 57600, 7200, 7200, 7200)
+timed("no moves, a week above the shift", LOOP, order(LONG), [], 7, 5, 6, 50)
+timed("a weekly rest at source", LOOP, order(LONG), [(WEEKLY_REST, 1, 162007)], 162007, 0, 0, 0)
+timed("two weekly rests in a row", LOOP, order(LONG), [(WEEKLY_REST, 1, 162007), (WEEKLY_REST, 1, 324007)], 324007, 0, 0, 0)
+timed("a drive after a weekly rest", LOOP, order(LONG), [(WEEKLY_REST, 1, 162007), (DRIVE, 1, 162057)], 162057, 50, 50, 50)
+timed("a weekly rest with the mark", LOOP, order(LONG), [(FIRST_PART, 1, 907), (WEEKLY_REST, 1, 162907)], 162907, 0, 0, 0)
+timed("parts after a weekly rest", LOOP, order(LONG), [(WEEKLY_REST, 1, 162007), (FIRST_PART, 1, 162907), (SECOND_PART, 1, 164707)], 164707, 0, 0, 0)
+timed("break and parts leave the week", LOOP, order(LONG), [(BREAK, 1, 2707), (FIRST_PART, 1, 3607), (SECOND_PART, 1, 5407)], 5407, 0, 6, 50)
+
+foreign("a second part after a weekly rest", LOOP, order(LONG), [(FIRST_PART, 1, 907), (WEEKLY_REST, 1, 162907), (SECOND_PART, 1, 164707)], 3)
+foreign("a weekly rest where no car park is", T, LATE, [(WEEKLY_REST, 1, 162000)], 1)
+foreign("a weekly rest of another number", T, LATE, [PLAN[0], (WEEKLY_REST, 1, 172800)], 2)
+foreign("a weekly rest of number 0", T, LATE, [PLAN[0], (WEEKLY_REST, 0, 172800)], 2)
+foreign("a weekly rest of number all bits", T, LATE, [PLAN[0], (WEEKLY_REST, ALL_BITS, 172800)], 2)
+foreign("kind 7 after a weekly rest", T, LATE, WEEKLY[:2] + [(7, 2, 172800)], 3)
+foreign("kind 262, a weekly rest by its low byte", T, LATE, [PLAN[0], (262, 2, 172800)], 2)
+
+both("week over its limit, last move", T, order(w14=183601), TRUE, "17 3 0")
+both("week over its limit, first move", T, order(w14=190801), TRUE, "17 1 0")
+both("a break does not clear the week", T, order(w14=190800), TRUE, "17 3 0")
+both("a rest does not clear the week", T, order(w14=190800), sheet(RESTED, 57600, 7200, 7200), "17 3 0")
+both("a weekly rest that ends after latest", T, order(w3=172799, w14=190800), sheet(WEEKLY, 180000, 7200, 7200), "17 2 0")
+both("ends at Lay after a weekly rest", T, LATE, sheet(WEEKLY[:2], 172800, 0, 0), "19 2 0")
+
+audit("week one too low", T, order(), sheet(PLAN, 20700, 7200, 18000, week=17999), "18 4 0")
+audit("week one too high", T, order(), sheet(PLAN, 20700, 7200, 18000, week=18001), "18 4 0")
+audit("week and N exchanged", T, order(), sheet(PLAN, 20700, 7200, 18000, 18000, week=4), "18 4 0")
+audit("week without its start", T, order(w14=100), TRUE, "18 4 0")
+audit("the shift in place of the week", T, order(), sheet(RESTED, 57600, 7200, 7200), "18 4 0")
+audit("a week that the weekly rest has not cleared", T, LATE, sheet(WEEKLY, 180000, 7200, 7200, week=208800), "18 4 0")
+audit("no moves, false week", LOOP, order(HOME), sheet([], 7, 5, 6, week=7), "18 1 0")
+audit("false clock of a weekly rest", T, LATE, sheet([WEEKLY[0], (WEEKLY_REST, 2, 50400), WEEKLY[2]], 180000, 7200, 7200), "18 2 0")
+retime("a false week is not read", T, order(), sheet(PLAN, 20700, 7200, 18000, week=99), 60, "0 3 20700", TRUE)
+retime("N is copied, not the week", T, order(), sheet(PLAN, labels=77, week=88), 60, "0 3 20700", sheet(PLAN, 20700, 7200, 18000, 77))
+
+FIVE_WORDS = words(3, 20700, 7200, 18000, 4)  # a header without a week
+both("20 bytes", T, order(), TRUE[:20], "15 20 0")
+both("23 bytes", T, order(), TRUE[:23], "15 23 0")
+both("24 bytes, moves of which none follows", T, order(), TRUE[:24], "15 24 0")
+both("20 + 12M bytes", T, order(), TRUE[:56], "15 56 0")
+both("a header without a week", T, order(), FIVE_WORDS + TRUE[24:], "15 56 0")
+both("no moves and a header without a week", LOOP, order(HOME), words(0, 7, 5, 6, 4), "15 20 0")
+retime("room for 20 + 12M bytes", T, order(), TRUE, 56, "14 60 0")
+retime("no moves, 20 bytes", LOOP, order(HOME), sheet([]), 20, "14 24 0")
+both("weekly rest shorter than the rest, torn sheet: the rest", T, order(w13=39599), b"", "10 13 0")
+both("week below the shift, torn sheet: the week", T, order(w5=9, w14=8), b"", "11 14 0")

@@ -6,7 +6,8 @@ A struck road can be driven round and round, so that latest is near where one is
 import plan_cases
 from case_files import case
 from formats import ALL_BITS, BREAK, DRIVE, EUROPE, EUROPE_SPLIT, Map, chained, map_t, order, sheet, words
-from plan_cases import HOURS, NO_PARK, ONE_TO_FOUR, ONE_TO_TWO, PARK, PRACTICE, T_ANSWER, T_ROWS, in_t, trip_map
+from plan_cases import HOURS, LATE_ANSWER, LATE_ROWS, NO_PARK, ONE_TO_FOUR, ONE_TO_TWO, PARK, PRACTICE, T_ANSWER, T_ROWS
+from plan_cases import in_t, trip_map
 from sheet_cases import TRUE, audit, both
 
 T = map_t().bytes()
@@ -95,6 +96,8 @@ refused("T without road 2, a rest that ends at latest", 2, T, order(w3=50400), 1
 refused("T without road 2, no time for a rest", 2, T, order(w3=50399), 13, 3)
 refused("T without road 2, with Europe's parts", 2, T, order(EUROPE_SPLIT), 13, 7)
 planned("T without road 3, with Europe's parts", 3, T, order(EUROPE_SPLIT), 6, T_ANSWER, T_ROWS)
+planned("T without road 3, late in the week", 3, T, order(w3=180000, w14=190800), 6, LATE_ANSWER, LATE_ROWS)
+refused("T without road 2, late in the week", 2, T, order(w3=180000, w14=190800), 13, 5)
 # With a spell of five hours all ways take 18,000: by road 3, whose parent is the start, or by Lay.
 FIVE_HOURS = order(w6=18000)
 plan_cases.planned("T with a spell of five hours", T, FIVE_HOURS, 4, (18000, 18000, 18000), [(DRIVE, 3, 18000)])
@@ -197,6 +200,7 @@ for road in (3, 4):
     refused("bad rules, road %d" % road, road, T, order(w7=0), 10, 7)
     refused("a lone zero part, road %d" % road, road, T, order(w11=1800), 10, 10)
     refused("bad trip, road %d" % road, road, T, order(w1=4), 11, 1)
+    refused("week above its limit, road %d" % road, road, T, order(w14=201601), 11, 14)
 refused("a spell above its limit, no road 0, no space", 0, T, order(w4=16201, w5=16201), 11, 4, label_words=0, length=0)
 
 # --- audits on struck maps -------------------------------------------------------------------------

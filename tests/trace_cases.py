@@ -298,3 +298,81 @@ ruled("a lone zero and a second part above the break", EUROPEAN + (0, 2701), 10)
 ruled("both parts of all bits", EUROPEAN + (ALL_BITS, ALL_BITS), 10)
 ruled("rest 0 before a lone zero part", (16200, 2700, 32400, 0, 0, 1800), 9)
 replayed("parts as long as the break pass", [], MARKED, MARKED, EUROPEAN + (2700, 2700))
+
+# --- the week (document 02, P7): 201,600 and 162,000 seconds, with the parts ------------------------------------
+TIRED_IN_WEEK = (15, 20, 25, 1)  # spell, shift, week, mark
+LATE_IN_WEEK = (0, 0, 190800, 0)  # 10,800 seconds are left
+FULL_WEEK = (0, 0, 201600, 0)
+CLEARED = (0, 0, 0, 0)
+
+
+def of_week(title, records, before, after, rules=PARTS):
+    replay("week: " + title, trace(records), before, rules, "0 %d 0" % len(records), after)
+
+
+def not_of_week(title, records, number, place, before, rules=PARTS):
+    """The figures stay."""
+    given = records if isinstance(records, bytes) else trace(records)
+    replay("week: " + title, given, before, rules, "%d %d 0" % (number, place), before)
+
+
+of_week("an empty trace leaves it", [], TIRED_IN_WEEK, TIRED_IN_WEEK)
+of_week("driving adds to all three", [(DRIVING, 5)], TIRED_IN_WEEK, (20, 25, 30, 1))
+of_week("other work as long as a weekly rest clears nothing", [(WORK, 162000)], TIRED_IN_WEEK, TIRED_IN_WEEK)
+for seconds, after in (
+    (1800, (0, 20, 25, 0)),
+    (2700, (0, 20, 25, 0)),
+    (39600, (0, 0, 25, 0)),
+    (161999, (0, 0, 25, 0)),
+    (162000, CLEARED),
+    (162001, CLEARED),
+    (MOST, CLEARED),
+):
+    of_week("a pause of %d" % seconds, [(PAUSE, seconds)], TIRED_IN_WEEK, after)
+of_week("two pauses that make a weekly rest", [(PAUSE, 81000), (PAUSE, 81000)], TIRED_IN_WEEK, CLEARED)
+of_week("two pauses one second short of it", [(PAUSE, 81000), (PAUSE, 80999)], TIRED_IN_WEEK, (0, 0, 25, 0))
+of_week("a rest and a second more make a weekly rest", [(PAUSE, 161999), (PAUSE, 1)], TIRED_IN_WEEK, CLEARED)
+of_week("other work ends a pause short of it", [(PAUSE, 161999), (WORK, 1), (PAUSE, 161999)], TIRED_IN_WEEK, (0, 0, 25, 0))
+of_week("driving ends a pause short of it", [(PAUSE, 81000), (DRIVING, 9), (PAUSE, 81000)], TIRED_IN_WEEK, (0, 0, 34, 0))
+of_week("a weekly rest, then driving", [(PAUSE, 162000), (DRIVING, 9)], TIRED_IN_WEEK, (9, 9, 9, 0))
+of_week("driving, then a weekly rest", [(DRIVING, 9), (PAUSE, 81000), (PAUSE, 81000)], TIRED_IN_WEEK, CLEARED)
+of_week("a rest, then driving: the week goes on", [(PAUSE, 39600), (DRIVING, 9)], TIRED_IN_WEEK, (9, 9, 34, 0))
+of_week("a first part behind a weekly rest", [(PAUSE, 162000), (WORK, 1), (PAUSE, 900)], TIRED_IN_WEEK, (0, 0, 0, 1))
+of_week("weekly rest as long as the rest", [(PAUSE, 39600)], TIRED_IN_WEEK, CLEARED, PARTS + (201600, 39600))
+of_week("weekly rest as long as the rest, one second less", [(PAUSE, 39599)], TIRED_IN_WEEK, (0, 20, 25, 0), PARTS + (201600, 39600))
+of_week("the longest weekly rest, one second less", [(PAUSE, 999999)], TIRED_IN_WEEK, (0, 0, 25, 0), PARTS + (201600, MOST))
+of_week("the longest weekly rest", [(PAUSE, 500000), (PAUSE, 500000)], TIRED_IN_WEEK, CLEARED, PARTS + (201600, MOST))
+
+of_week("just to its limit", [(DRIVING, 10800)], LATE_IN_WEEK, (10800, 10800, 201600, 0))
+not_of_week("one second past its limit", [(DRIVING, 10801)], 23, 1, LATE_IN_WEEK)
+not_of_week("no more driving with the week full", [(DRIVING, 1)], 23, 1, FULL_WEEK)
+not_of_week("a rest allows no more of it", [(DRIVING, 10800), (PAUSE, 161999), (DRIVING, 1)], 23, 3, LATE_IN_WEEK)
+of_week("a weekly rest allows another week", [(DRIVING, 10800), (PAUSE, 162000), (DRIVING, 16200)], LATE_IN_WEEK, (16200, 16200, 16200, 0))
+not_of_week("no seconds of driving with the week full: odd", [(DRIVING, 0)], 22, 1, FULL_WEEK)
+TWO_SPELLS = [(DRIVING, 16200), (PAUSE, 2700), (DRIVING, 16200)]
+DAY = TWO_SPELLS + [(PAUSE, 39600)]
+of_week("six days and two hours", DAY * 6 + [(DRIVING, 7200)], CLEARED, (7200, 7200, 201600, 0))
+not_of_week("six days, two hours and a second", DAY * 6 + [(DRIVING, 7201)], 23, 25, CLEARED)
+of_week("a week limit of one shift", TWO_SPELLS, CLEARED, (16200, 32400, 32400, 0), PARTS + (32400, 162000))
+not_of_week("a week limit of one shift, a second after the rest", DAY + [(DRIVING, 1)], 23, 5, CLEARED, PARTS + (32400, 162000))
+of_week("the highest week limit", [(DRIVING, 16200)], (0, 0, 983800, 0), (16200, 16200, MOST, 0), PARTS + (MOST, MOST))
+
+# Refused traces leave the week. It is judged as word 14 of an order, behind words 4 and 5 and before the trace.
+not_of_week("odd behind a weekly rest", [(PAUSE, 162000), (WORK, 0)], 22, 2, TIRED_IN_WEEK)
+for title, figures, place in (
+    ("above its limit", (0, 0, 201601, 0), 14),
+    ("below the shift", (15, 20, 19, 1), 14),
+    ("0 with a shift", (15, 20, 0, 0), 14),
+    ("of all bits", (15, 20, ALL_BITS, 0), 14),
+    ("bad, and shift above its limit", (0, 32401, 0, 0), 5),
+    ("bad, and spell above its limit", (16201, 16201, 0, 0), 4),
+):
+    not_of_week(title + ", torn", TORN, 11, place, figures)
+of_week("as the shift", [], (15, 20, 20, 0), (15, 20, 20, 0))
+of_week("at its limit", [], FULL_WEEK, FULL_WEEK)
+ruled("week limit below the shift limit", PARTS + (32399, 162000), 12)
+ruled("week limit 1,000,001", PARTS + (1000001, 162000), 12)
+ruled("weekly rest shorter than the rest", PARTS + (201600, 39599), 13)
+ruled("weekly rest 1,000,001", PARTS + (201600, 1000001), 13)
+ruled("week limit and weekly rest 0", PARTS + (0, 0), 12)
+ruled("a lone zero part before week limit 0", EUROPEAN + (0, 1800, 0, 162000), 10)
