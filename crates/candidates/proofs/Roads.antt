@@ -13,7 +13,8 @@ use Rattle.roadmap.specs.Format.{roadCount, firstRoad, nextRoad, roadFrom}
 use Rattle.mapcheck.specs.MapCheck.{AcceptedMap}
 use Rattle.mapcheck.proofs.Listed.{LowestFrom, lowest-from}
 use Rattle.mapcheck.proofs.Sound.{accepted-made}
-use Rattle.driving.specs.Hours.{lastPause}
+use Rattle.driving.specs.Hours.{lastPause, hasSplit}
+use Rattle.driving.proofs.Hours.{no-part}
 use Rattle.states.specs.declared.State.{State}
 use Rattle.moves.specs.declared.Run.{Run}
 use Rattle.moves.specs.Trip.{Trip, roadsIn, parkIn}
@@ -86,6 +87,19 @@ module _ {trip : Trip} {s : State} {cursor : ℕ} (worth : Worth trip s cursor) 
         rises = λ some. omega arith;
         worth = λ some. record { low = omega arith; high = high; road = λ high. absurd (omega arith); pause = λ l. worth .pause low };
         over = λ c past before named. omega (arith, before (omega arith));
+      }
+
+  -- without a split what follows the rest is the weekly rest
+  pub past-parts : cursor ≡ roadsIn trip + 2 → hasSplit (trip .order .rules) ≡ false → Follows trip s cursor (cursor + 3)
+  past-parts rest none =
+      record {
+        rises = λ some. omega arith;
+        worth = λ some. record { low = omega arith; high = omega arith; road = λ high. absurd (omega arith); pause = λ l. worth .pause low };
+        over = λ c past before named.
+            let part = c - roadsIn trip + 1 in
+            let below = before (omega arith) in
+            not-both (and-true {a = parkIn trip (s .junction)} (sym (offers-pause trip s c (omega arith) (named .high)) ∙ named .offered) .1)
+            (no-part (trip .order .rules) (s .figures) part (omega arith) (omega arith) none);
       }
 
   pub pause-last : roadsIn trip + lastPause ≤ cursor + 1 → Follows trip s cursor 0

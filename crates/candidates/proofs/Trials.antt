@@ -121,14 +121,16 @@ module _ {trip : Trip} {labels : List State} {before : ℕ} {s bound : State} {c
   pub kept-low : ranksNoHigher (resultAt trip s cursor) bound ≡ true → BestBelow trip labels before s bound (cursor + 1) best
   kept-low low = kept (λ other. absurd (T-not (ranksNoHigher (resultAt trip s cursor) bound) (other .higher) (true-T low)))
 
-  -- or does not rank below the best, where there may be more in any case
-  pub kept-high : best .more ≡ true → 1 ≤ best .cursor → T (ranksNoHigher (resultAt trip s (best .cursor)) (resultAt trip s cursor)) → BestBelow trip labels before s bound (cursor + 1) best
-  kept-high more some ranks =
+  -- or, if it is legal, is later than the best, where there may be more in any case
+  pub kept-later : SoundTrip trip → best .more ≡ true → best .clock < resultAt trip s cursor .clock .0 → BestBelow trip labels before s bound (cursor + 1) best
+  kept-later sound more late =
       kept
       (λ other.
+      let held = tried .found .held in
+      let some = some-best sound held (other .named) (omega arith) in
       absurd
       (T-not (ranksNoHigher (resultAt trip s (best .cursor)) (resultAt trip s cursor))
-      (subst (λ (m : Bool). Apart m (resultAt trip s (best .cursor)) (resultAt trip s cursor)) more (other .apart some)) ranks))
+      (subst (λ (m : Bool). Apart m (resultAt trip s (best .cursor)) (resultAt trip s cursor)) more (other .apart some)) (later-higher sound held (other .named) late)))
 
   -- or needs no turn: it is covered, or forestalled
   pub kept-covered : Covered covers labels (resultAt trip s cursor) → BestBelow trip labels before s bound (cursor + 1) best

@@ -27,6 +27,9 @@ pub const HINT_ENTRIES: usize = 1024;
 
 const HINT_BASE: u32 = 65536;
 
+// From the cursor of a rest past those of the parts, which no rules without a split allow.
+const PAST_PARTS: u32 = Rules::WEEKLY_REST - Rules::REST;
+
 // A label and a move of it; none where the label is 0.
 struct Rival {
     label: usize,
@@ -325,16 +328,16 @@ fn weigh(
         return best;
     }
     let reached = result_at(map, run, state, cursor);
+    if best.more {
+        if best.clock < reached.clock.0 {
+            return best;
+        }
+    }
     if !states::is_legal(run.order, reached) {
         return best;
     }
     if states::ranks_no_higher(reached, bound) {
         return best;
-    }
-    if best.more {
-        if best.clock < reached.clock.0 {
-            return best;
-        }
     }
     if labels::covered(words, heads, spells, shifts, n, 0, reached) {
         return best;
@@ -398,8 +401,14 @@ fn following(map: &[u8], run: Run, state: State, cursor: u32) -> u32
         }
         return first_pause(map, run, state);
     }
-    if cursor - sizes.roads + 1 == Rules::LAST_PAUSE {
+    let kind = cursor - sizes.roads + 1;
+    if kind == Rules::LAST_PAUSE {
         return 0;
+    }
+    if kind == Rules::REST {
+        if !driving::has_split(run.order.rules) {
+            return cursor + PAST_PARTS;
+        }
     }
     cursor + 1
 }

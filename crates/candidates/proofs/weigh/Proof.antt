@@ -10,7 +10,7 @@ use Rattle.moves.proofs.Trips.{run-tied}
 use Rattle.moves.proofs.Rising.{run-sound, range-after}
 use Rattle.candidates.specs.Candidates.{moveAt, Names}
 use Rattle.candidates.proofs.Results.{allowed-offers}
-use Rattle.candidates.proofs.Trials.{is-lower, some-best, later-higher, kept-unnamed, kept-low, kept-high, kept-covered, kept-forestalled, tried-joined, none-covers}
+use Rattle.candidates.proofs.Trials.{is-lower, kept-unnamed, kept-low, kept-later, kept-covered, kept-forestalled, tried-joined, none-covers}
 use Rattle.candidates.proofs.Rivals.{worth-pause, forestalled-by}
 use Rattle.candidates.proofs.weigh.Statement.{statement}
 use Rattle.candidates.proofs.weigh.Tie as tie
@@ -37,20 +37,28 @@ result-at-requires c κs =
 abbrev start : tie.After-result-at → tie.Start
 start c = c .before .before .before .before .before .before .before .before .before
 
+-- legal or not, it is later than the best
 returns-2 : tie.Need-returns-2
 returns-2 c =
-    let led = c .before .before in
+    let led = c .before .before .before .before in
+    let s = start led in
+    kept-later (s .pre .1 .1 .1 .1 .1) (run-sound (s .args .map .now) (s .args .run) (s .pre .0)) (c .before .before .before .if2 .taken)
+    (rw (led .result-at .ensures) at (c .if3 .taken))
+
+returns-3 : tie.Need-returns-3
+returns-3 c =
+    let led = c .before .before .before in
     let s = start led in
     let a = s .args in
     kept-unnamed (s .pre .1 .1 .1 .1 .1)
-    (λ named. not-both (named .lawful) (rw (← led .result-at .ensures, run-tied (a .map .now) (a .run) .order) (sym (c .before .is-legal .ensures) ∙ not-true _ (c .if2 .taken))))
+    (λ named. not-both (named .lawful) (rw (← led .result-at .ensures, run-tied (a .map .now) (a .run) .order) (sym (c .before .is-legal .ensures) ∙ not-true _ (c .if4 .taken))))
 
 -- the cursor names a legal move
-named : (c : tie.Else2) →
-    let s = start (c .before .before) in
+named : (c : tie.Else4) →
+    let s = start (c .before .before .before) in
     Names (tripIn (s .args .map .now) (s .args .run)) (s .args .state) (s .args .cursor)
 named c =
-    let led = c .before .before in
+    let led = c .before .before .before in
     let asked = led .before .before in
     let s = start led in
     let a = s .args in
@@ -60,32 +68,19 @@ named c =
       low = worth .low;
       high = worth .high;
       offered = sym (allowed-offers tied (s .pre .0 .sized .roads) worth) ∙ sym (asked .allowed .ensures) ∙ not-false _ (led .before .if1 .left);
-      lawful = rw (← led .result-at .ensures, tied .order) (sym (c .before .is-legal .ensures) ∙ not-false _ (c .if2 .left));
+      lawful = rw (← led .result-at .ensures, tied .order) (sym (c .before .is-legal .ensures) ∙ not-false _ (c .if4 .left));
     }
-
-returns-3 : tie.Need-returns-3
-returns-3 c =
-    let led = c .before .before .before .before in
-    let s = start led in
-    kept-low (s .pre .1 .1 .1 .1 .1) (rw (← led .result-at .ensures, ← c .before .ranks-no-higher .ensures) (c .if3 .taken))
 
 returns-4 : tie.Need-returns-4
 returns-4 c =
-    let legal = c .before .before .before .before .before .before in
-    let led = legal .before .before in
+    let led = c .before .before .before .before .before in
     let s = start led in
-    let a = s .args in
-    let sound = run-sound (a .map .now) (a .run) (s .pre .0) in
-    let tried = s .pre .1 .1 .1 .1 .1 in
-    let late = rw (led .result-at .ensures) at (c .if5 .taken) in
-    kept-high tried (c .before .before .before .if4 .taken)
-    (some-best sound (tried .found .held) (named legal) (omega arith))
-    (later-higher sound (tried .found .held) (named legal) late)
+    kept-low (s .pre .1 .1 .1 .1 .1) (rw (← led .result-at .ensures, ← c .before .ranks-no-higher .ensures) (c .if5 .taken))
 
 covered-requires : tie.Need-covered-requires
 covered-requires c κs =
-    let legal = c .before .before .before in
-    let led = legal .before .before in
+    let legal = c .before .before in
+    let led = legal .before .before .before in
     let s = start led in
     let a = s .args in
     let one = named legal in
@@ -100,11 +95,11 @@ returns-5 c =
 
 forestalled-requires : tie.Need-forestalled-requires
 forestalled-requires c κs =
-    let legal = c .before .before .before .before .before .before in
-    let s = start (legal .before .before) in
+    let legal = c .before .before .before .before .before in
+    let s = start (legal .before .before .before) in
     let known = s .pre .1 .1 .1 .0 in
     let lists = s .pre .1 .1 .0 .0 in
-    ((s .pre .0, sym (legal .before .is-legal .ensures) ∙ not-false _ (legal .if2 .left)), ((s .pre .1 .1 .0 .1, λ j h. lists .heads j h .same), ((known .1, omega (arith, lists .room, known .0), known .3), λ more some. worth-pause (s .pre .1 .1 .1 .1 .0) more (known .2 some))))
+    ((s .pre .0, sym (legal .before .is-legal .ensures) ∙ not-false _ (legal .if4 .left)), ((s .pre .1 .1 .0 .1, λ j h. lists .heads j h .same), ((known .1, omega (arith, lists .room, known .0), known .3), λ more some. worth-pause (s .pre .1 .1 .1 .1 .0) more (known .2 some))))
 
 returns-6 : tie.Need-returns-6
 returns-6 c =
@@ -121,8 +116,8 @@ keep-hint-requires c κs =
 
 joined-requires : tie.Need-joined-requires
 joined-requires c κs =
-    let legal = c .before .before .before .before .before .before .before .before .before .before .before .before in
-    let led = legal .before .before in
+    let legal = c .before .before .before .before .before .before .before .before .before .before .before in
+    let led = legal .before .before .before in
     let s = start led in
     let found = s .pre .1 .1 .1 .1 .1 .found in
     ((s .pre .0, refl), (s .pre .1 .0, ((found .held, named legal), led .result-at .ensures)))
@@ -130,12 +125,12 @@ joined-requires c κs =
 returns-7 : tie.Need-returns-7
 returns-7 c =
     let left = c .before .before .before .before .before .before .before .before in
-    let ranked = left .before .before .before .before in
+    let ranked = left .before .before .before in
     let legal = ranked .before in
-    let led = legal .before .before in
+    let led = legal .before .before .before in
     let s = start led in
     tried-joined (s .pre .1 .1 .1 .1 .1) (named legal)
-    (rw (← led .result-at .ensures) (is-lower _ _ (sym (ranked .ranks-no-higher .ensures) ∙ left .before .before .before .if3 .left)))
+    (rw (← led .result-at .ensures) (is-lower _ _ (sym (ranked .ranks-no-higher .ensures) ∙ left .before .before .if5 .left)))
     (rw (← led .result-at .ensures) (subst (Says _) (left .if6 .left) (left .before .covered .ensures)))
     (c .joined .ensures)
 
@@ -146,10 +141,10 @@ weigh-spec =
     allowed-requires
     returns
     result-at-requires
-    (λ c κs. search needs)
     returns-2
     (λ c κs. search needs)
     returns-3
+    (λ c κs. search needs)
     returns-4
     covered-requires
     returns-5
