@@ -4,11 +4,12 @@ use mathlib.Core.Bool.{Bool, true, false}
 use mathlib.Core.List.{List, [], _∷_}
 use Prim.Native.Nat.{ℕ, zero, suc, _-_, _≤_, _<_}
 use native.Mathlib.Omega.{arith}
+use native.Mathlib.Nat.{le-refl}
 use lib.Dec.{T, eqb}
 use lib.ListN.{getD}
 use Rattle.booleans.proofs.Tests.{not-both, and-true}
 use Rattle.theory.specs.Figures.{noneAbove}
-use Rattle.theory.proofs.Figures.{above-end, above-more, above-both, above-at}
+use Rattle.theory.proofs.Figures.{above-end, above-head, above-tail, above-more, above-self, above-trans, above-both, above-at}
 use Rattle.theory.proofs.Changes.{Change, grows, stays, becomes, changedEach}
 use Rattle.driving.specs.declared.Figures.{Figures}
 use Rattle.driving.specs.declared.Rules.{Rules}
@@ -95,6 +96,35 @@ cleared-rise kind f rise = by-row (kind - firstPause)
     by-row (suc (suc (suc zero))) = record { spell-shift = none-low _; shift-week = rise .shift-week }
     by-row (suc (suc (suc (suc zero)))) = record { spell-shift = none-low _; shift-week = none-low _ }
     by-row (suc (suc (suc (suc (suc row))))) = rise
+
+-- what rises within the limits is sound
+pub rise-sound : (f : Figures) (r : Rules) → FiguresRise f → T (noneAbove (wheelFigures f) (wheelLimits r)) → SoundFigures f r
+rise-sound f r rise within =
+    let late = above-tail _ _ _ _ within in
+    record {
+      spell-high = above-head _ _ _ _ within;
+      figures-rise = rise .spell-shift;
+      shift-high = above-head _ _ _ _ late;
+      week-low = rise .shift-week;
+      week-high = above-head _ _ _ _ (above-tail _ _ _ _ late);
+    }
+
+-- no pause raises a figure that has a limit, so each leaves sound figures sound
+pub cleared-sound : (kind : ℕ) (f : Figures) (r : Rules) → SoundFigures f r → SoundFigures (cleared kind f) r
+cleared-sound kind f r sound =
+    rise-sound (cleared kind f) r (cleared-rise kind f (sound-rise f r sound))
+    (above-trans (wheelFigures (cleared kind f)) (wheelFigures f) (wheelLimits r) (by-row (kind - firstPause)) (figures-within f r sound))
+  where
+    lower : {spell shift week : ℕ} → spell ≤ f .spell .0 → shift ≤ f .shift .0 → week ≤ f .week .0 → T (noneAbove (spell ∷ shift ∷ week ∷ []) (wheelFigures f))
+    lower spell shift week = above-more _ _ _ _ spell (above-more _ _ _ _ shift (above-more _ _ _ _ week above-end))
+
+    by-row : (row : ℕ) → T (noneAbove (wheelFigures (getD clearings row (λ f. f) f)) (wheelFigures f))
+    by-row zero = lower (omega arith) (le-refl _) (le-refl _)
+    by-row (suc zero) = lower (omega arith) (omega arith) (le-refl _)
+    by-row (suc (suc zero)) = above-self (wheelFigures f)
+    by-row (suc (suc (suc zero))) = lower (omega arith) (le-refl _) (le-refl _)
+    by-row (suc (suc (suc (suc zero)))) = lower (omega arith) (omega arith) (omega arith)
+    by-row (suc (suc (suc (suc (suc row))))) = above-self (wheelFigures f)
 
 -- a whole pause is always allowed, and a part only with a split
 pub weekly-allowed : (r : Rules) (f : Figures) (kind : ℕ) → 5 < kind → kind ≤ lastPause → allowsPause r f kind ≡ true

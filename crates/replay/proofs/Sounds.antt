@@ -8,12 +8,12 @@ use borrow.Author.Tests.{ltb-true, ltb-false, not-false}
 use lib.Dec.{T, leb, ltb}
 use Rattle.booleans.proofs.Tests.{cases, or-false, true-T}
 use Rattle.theory.specs.Figures.{noneAbove}
-use Rattle.theory.proofs.Figures.{above-head, above-tail, above-trans}
+use Rattle.theory.proofs.Figures.{above-trans}
 use Rattle.driving.specs.declared.Figures.{Figures}
 use Rattle.driving.specs.declared.Rules.{Rules}
 use Rattle.driving.specs.Accepted.{SoundRules, SoundFigures}
-use Rattle.driving.specs.Hours.{wheelFigures, wheelLimits, highestLimits, drivenOn, hasSplit, afterBreak, afterRest, afterFirst, afterSecond, afterWeekly}
-use Rattle.driving.proofs.Hours.{figures-within, limits-within}
+use Rattle.driving.specs.Hours.{wheelFigures, wheelLimits, highestLimits, drivenOn, hasSplit, afterBreak, afterRest, afterFirst, afterSecond, afterWeekly, cleared}
+use Rattle.driving.proofs.Hours.{figures-within, limits-within, sound-rise, driven-rise, rise-sound, cleared-sound}
 use Rattle.replay.specs.declared.TraceRecord.{TraceRecord}
 use Rattle.replay.specs.declared.Underway.{Underway}
 use Rattle.replay.specs.Trace.{pause, isDriving, isPause}
@@ -37,52 +37,22 @@ paused-sound f rules seconds sound =
     by (leb (rules .«weekly_rest» .0) seconds) (leb (rules .«rest_time» .0) seconds) (leb (rules .«break_time» .0) seconds) (hasSplit rules)
     (f .marked && leb (rules .«second_part» .0) seconds) (leb (rules .«first_part» .0) seconds)
   where
-    -- a cleared figure is at most any other, and what is not cleared stays as it was
-    spell-cleared : SoundFigures (afterBreak f) rules
-    spell-cleared =
-        record {
-          spell-high = omega arith;
-          figures-rise = omega arith;
-          shift-high = sound .shift-high;
-          week-low = sound .week-low;
-          week-high = sound .week-high;
-        }
-
-    both-cleared : SoundFigures (afterRest f) rules
-    both-cleared = record { spell-high = omega arith; figures-rise = omega arith; shift-high = omega arith; week-low = omega arith; week-high = sound .week-high }
-
-    all-cleared : SoundFigures (afterWeekly f) rules
-    all-cleared = record { spell-high = omega arith; figures-rise = omega arith; shift-high = omega arith; week-low = omega arith; week-high = omega arith }
-
-    marked-too : SoundFigures (afterFirst f) rules
-    marked-too =
-        record {
-          spell-high = sound .spell-high;
-          figures-rise = sound .figures-rise;
-          shift-high = sound .shift-high;
-          week-low = sound .week-low;
-          week-high = sound .week-high;
-        }
+    kept : (kind : ℕ) → SoundFigures (cleared kind f) rules
+    kept kind = cleared-sound kind f rules sound
 
     by : (weekly rests breaks split ends begins : Bool) →
         SoundFigures (pickFigures weekly (afterWeekly f) (pickFigures rests (afterRest f) (pickFigures breaks (afterBreak f) (pickFigures split (pickFigures ends (afterSecond f) (pickFigures begins (afterFirst f) f)) f)))) rules
-    by true rests breaks split ends begins = all-cleared
-    by false true breaks split ends begins = both-cleared
-    by false false true split ends begins = spell-cleared
-    by false false false true true begins = spell-cleared
-    by false false false true false true = marked-too
+    by true rests breaks split ends begins = kept 6
+    by false true breaks split ends begins = kept 3
+    by false false true split ends begins = kept 2
+    by false false false true true begins = kept 5
+    by false false false true false true = kept 4
     by false false false true false false = sound
     by false false false false ends begins = sound
 
 driven-sound : (f : Figures) (rules : Rules) (seconds : ℕ) → SoundFigures f rules → T (noneAbove (wheelFigures (drivenOn seconds f)) (wheelLimits rules)) → SoundFigures (drivenOn seconds f) rules
 driven-sound f rules seconds sound within =
-    record {
-      spell-high = above-head _ _ _ _ within;
-      figures-rise = omega (arith, sound);
-      shift-high = above-head _ _ _ _ (above-tail _ _ _ _ within);
-      week-low = omega (arith, sound);
-      week-high = above-head _ _ _ _ (above-tail _ _ _ _ (above-tail _ _ _ _ within));
-    }
+    rise-sound (drivenOn seconds f) rules (driven-rise seconds f (sound-rise f rules sound)) within
 
 pub lengthened-high : (p s : ℕ) → lengthened p s ≤ mostSeconds
 lengthened-high p s =
