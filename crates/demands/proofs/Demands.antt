@@ -218,7 +218,7 @@ module _ {map order sheet out out′ : List ℕ} {answer : Timing} (retimed : Re
     pub retiming-copies : (movesRead out′ ≡ movesRead sheet) × (headingOf out′ .labels ≡ headingOf sheet .labels)
     retiming-copies = (same-moves retimed done, same-labels retimed done)
 
-    -- "Bytes after 24 + 12M stay."
+    -- "Bytes after 20 + 12M stay.", since document 02 (P7) those after 24 + 12M
     pub retiming-keeps : drop (sheetNeeded (movesOn out′)) out′ ≡ drop (sheetNeeded (movesOn out′)) out
     retiming-keeps = rest-retimed retimed done
 
@@ -254,7 +254,7 @@ module _ {map order words words′ sheet sheet′ : List ℕ} {answer : Planning
   pub planning-length : length sheet′ ≡ length sheet
   planning-length = by-number (toldPlan answer .number) (λ plans. length-written (wrote-plan plans)) (λ refused. ap length (planning-leaves refused))
 
-  -- "Bytes after 24 + 12M stay."
+  -- "Bytes after 20 + 12M stay.", since document 02 (P7) those after 24 + 12M
   pub planning-keeps : Plans answer → drop (sheetNeeded (movesOn sheet′)) sheet′ ≡ drop (sheetNeeded (movesOn sheet′)) sheet
   planning-keeps plans = rest-written (wrote-plan plans)
 
