@@ -26,6 +26,10 @@ use Rattle.planner.specs.Planned.{Planned}
 use Rattle.planner.specs.Preview.{Previewed}
 use Rattle.trunk.specs.Written.{replyPut, partPut, rulesIn, figuresIn, figuresPut}
 
+-- the version of the library: of its calls, the formats that they read and write, and the numbers that they tell
+abbrev pub libraryVersion : ℕ
+libraryVersion = 1
+
 -- a call that only judges: it writes nothing but what it tells
 pub record JudgingCall (tells : Reply) (reply reply′ : List ℕ) : Type 0 where
   pub short : length reply < 3 → reply′ ≡ reply

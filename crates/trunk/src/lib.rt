@@ -7,7 +7,7 @@ ghost use lib.ListN.{length};
 ghost use Rattle.replies.specs.Told.{toldName};
 ghost use Rattle.mapedit.specs.Name.{nameReply};
 ghost use Rattle.trunk.specs.Written.{replyPut, rulesIn, figuresIn, markWord, figuresPut};
-ghost use Rattle.trunk.specs.Calls.{MapCheckCall, OrderCheckCall, PlanCall, PreviewCall, RetimeCall, AuditCall, NameCall, ChainsCall, StrikeCall, ReplayCall, namePut, figuresLeft};
+ghost use Rattle.trunk.specs.Calls.{MapCheckCall, OrderCheckCall, PlanCall, PreviewCall, RetimeCall, AuditCall, NameCall, ChainsCall, StrikeCall, ReplayCall, libraryVersion, namePut, figuresLeft};
 use driving::Figures;
 use driving::Rules;
 use replies::NameReply;
@@ -24,6 +24,16 @@ const PART_NUMBERS: usize = 2;
 const RULE_WORDS: usize = 8;
 
 const FIGURE_WORDS: usize = 4;
+
+// The version of the library: it rises when a call, a format or a number changes.
+const VERSION: u32 = 1;
+
+#[no_mangle]
+pub extern "C" fn trunk_version() -> u32
+    ensures { λ r. ⌜ r ≡ libraryVersion ⌝ }
+{
+    VERSION
+}
 
 fn put_reply(lent: &mut [u64], reply: Reply)
     requires { ⌜ 3 ≤ length (now lent) ⌝ }
