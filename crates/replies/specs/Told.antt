@@ -18,7 +18,7 @@ abbrev pub refusedAt : ℕ → ℕ → Reply
 refusedAt number place = record { number = number; place = place; arrival = 0 }
 
 abbrev pub toldRefusal : Refusal → Reply
-toldRefusal (ShortMap length) = refusedAt 1 length
+toldRefusal (ShortMap bytes) = refusedAt 1 bytes
 toldRefusal StrangeMap = refusedAt 2 0
 toldRefusal (Oversize offset) = refusedAt 3 offset
 toldRefusal (Misfit needed) = refusedAt 4 needed
@@ -26,19 +26,19 @@ toldRefusal (BadJunction junction) = refusedAt 5 junction
 toldRefusal (BadRoad road) = refusedAt 6 road
 toldRefusal (BrokenChain road) = refusedAt 7 road
 toldRefusal (BadLettering offset) = refusedAt 8 offset
-toldRefusal (BadOrder length) = refusedAt 9 length
+toldRefusal (BadOrder bytes) = refusedAt 9 bytes
 toldRefusal (BadRules word) = refusedAt 10 word
 toldRefusal (BadTrip word) = refusedAt 11 word
 toldRefusal (Full fit) = refusedAt 12 fit
 toldRefusal (NoRoad labels) = refusedAt 13 labels
 toldRefusal (ShortSheet needed) = refusedAt 14 needed
-toldRefusal (TornSheet length) = refusedAt 15 length
+toldRefusal (TornSheet bytes) = refusedAt 15 bytes
 toldRefusal (ForeignMove move) = refusedAt 16 move
 toldRefusal (Overrun move) = refusedAt 17 move
 toldRefusal (FalseFigure move) = refusedAt 18 move
 toldRefusal (Stray junction) = refusedAt 19 junction
 toldRefusal (UnknownName junction) = refusedAt 20 junction
-toldRefusal (TornTrace length) = refusedAt 21 length
+toldRefusal (TornTrace bytes) = refusedAt 21 bytes
 toldRefusal (OddRecord index) = refusedAt 22 index
 toldRefusal (PastLimit index) = refusedAt 23 index
 toldRefusal (UnknownRoad road) = refusedAt 24 road
@@ -50,7 +50,7 @@ toldCheck (Check.Refused why) = toldRefusal why
 
 -- named: 0, name length, 0
 abbrev pub toldName : NameReply → Reply
-toldName (NameReply.Named length) = succeeded length 0
+toldName (NameReply.Named letters) = succeeded letters 0
 toldName (NameReply.Refused why) = toldRefusal why
 
 -- retimed or audited: 0, M, arrival

@@ -102,7 +102,7 @@ withRow sheet k row = take (sheetNeeded (k - 1)) sheet ++ rowBytes row ++ drop (
 
 -- 14 short sheet: under 24 + 12M; bytes needed
 abbrev pub shortSheet : ℕ → ℕ → Option ℕ
-shortSheet moves length = placed (ltb length (sheetNeeded moves)) (sheetNeeded moves)
+shortSheet moves bytes = placed (ltb bytes (sheetNeeded moves)) (sheetNeeded moves)
 
 -- 15 torn sheet: under 24, M above 999,999, or not 24 + 12M; length
 unfoldable pub torn : List ℕ → Bool

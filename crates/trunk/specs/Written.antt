@@ -15,7 +15,7 @@ replyPut lent reply = set (set (set lent 0 (reply .number)) 1 (reply .place)) 2 
 
 -- a part of the map: where it starts, how long it is; the numbers after them stay
 abbrev pub partPut : List ℕ → ℕ → ℕ → List ℕ
-partPut lent from length = set (set lent 0 from) 1 length
+partPut lent from letters = set (set lent 0 from) 1 letters
 
 -- rules, as words 6 to 13 of an order; the words after them are not read
 abbrev pub rulesIn : List ℕ → Rules
