@@ -11,7 +11,8 @@ use Rattle.states.specs.declared.State.{State}
 use Rattle.moves.specs.declared.Move.{Move}
 use Rattle.moves.specs.Trip.{Trip}
 use Rattle.moves.proofs.Rising.{SoundTrip}
-use Rattle.theory.specs.Lists.{choose, insert, sorted, Distinct, distinct-nil, distinct-cons, StrictlySorted, sorted-nil, sorted-cons}
+use Rattle.booleans.specs.Pick.{pick}
+use Rattle.theory.specs.Lists.{insert, sorted, Distinct, distinct-nil, distinct-cons, StrictlySorted, sorted-nil, sorted-cons}
 use Rattle.theory.specs.Labels.{within}
 use Rattle.theory.proofs.Sorting.{never-self, sorted-from, sorted-in, sorted-strict}
 use Rattle.journeys.specs.Journeys.{Journey, UndominatedIn}
@@ -27,7 +28,7 @@ unfolding insert
 insert-length x [] = refl
 insert-length x (y ∷ ys) = by (ranksNoHigher x y) (insert-length x ys)
   where
-    by : (b : Bool) → length (insert ranksNoHigher x ys) ≡ suc (length ys) → length (choose b (x ∷ y ∷ ys) (y ∷ insert ranksNoHigher x ys)) ≡ suc (suc (length ys))
+    by : (b : Bool) → length (insert ranksNoHigher x ys) ≡ suc (length ys) → length (pick b (x ∷ y ∷ ys) (y ∷ insert ranksNoHigher x ys)) ≡ suc (suc (length ys))
     by true longer = refl
     by false longer = ap suc longer
 

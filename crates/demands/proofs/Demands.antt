@@ -20,7 +20,7 @@ use Rattle.replies.specs.declared.Reply.{Reply}
 use Rattle.replies.specs.declared.Timing.{Timing}
 use Rattle.replies.specs.First.{_at_, firstOf}
 use Rattle.replies.specs.Told.{succeeded, refusedAt, toldCheck, toldName, toldTiming, toldPlan, toldReplaying}
-use Rattle.replies.specs.Pick.{pick}
+use Rattle.booleans.specs.Pick.{pick}
 use Rattle.roadmap.specs.Format.{roadFrom, roadTo}
 use Rattle.mapcheck.specs.MapCheck.{mapTests, chainingTests, AcceptedMap}
 use Rattle.striking.specs.Striking.{toAt, struck, strikingTests, strikingReply, afterStriking, Striking}

@@ -9,7 +9,7 @@ use Rattle.replies.specs.declared.Reply.{Reply}
 use Rattle.replies.specs.declared.Check.{Check}
 use Rattle.replies.specs.First.{firstOf}
 use Rattle.replies.specs.Told.{succeeded, toldCheck}
-use Rattle.replies.specs.Pick.{pick}
+use Rattle.booleans.specs.Pick.{pick}
 use Rattle.roadmap.specs.Format.{junctionCount, roadCount, junctionAt, roadAt, roadFrom}
 use Rattle.mapcheck.specs.Listed.{lowestFrom}
 use Rattle.mapcheck.specs.MapCheck.{chainingTests}

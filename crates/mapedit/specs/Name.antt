@@ -7,7 +7,7 @@ use lib.ListN.{take, drop}
 use Rattle.replies.specs.declared.Reply.{Reply}
 use Rattle.replies.specs.First.{_at_, placed, firstOf}
 use Rattle.replies.specs.Told.{succeeded}
-use Rattle.replies.specs.Pick.{pick}
+use Rattle.booleans.specs.Pick.{pick}
 use Rattle.roadmap.specs.Format.{junctionCount, namesAt, nameStart, nameLength}
 use Rattle.mapcheck.specs.MapCheck.{outside, mapTests}
 

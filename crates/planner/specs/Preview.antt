@@ -9,7 +9,7 @@ use Rattle.replies.specs.declared.Planning.{Planning}
 use Rattle.replies.specs.declared.Reply.{Reply}
 use Rattle.replies.specs.First.{Test, _at_, firstOf}
 use Rattle.replies.specs.Told.{toldPlan}
-use Rattle.replies.specs.Pick.{pick}
+use Rattle.booleans.specs.Pick.{pick}
 use Rattle.striking.specs.Striking.{struck, unknownRoad}
 use Rattle.theory.specs.Lists.{memb}
 use Rattle.states.specs.LabelSpace.{labelsThatFit}

@@ -9,6 +9,7 @@ use native.Mathlib.Omega.{arith}
 use borrow.Author.Tests.{leb-true, leb-false, eq-eqb}
 use lib.Dec.{T, leb, eqb}
 use lib.ListN.{length, length-append}
+use Rattle.booleans.specs.Pick.{pick}
 use Rattle.booleans.proofs.Tests.{cases}
 use Rattle.replies.specs.declared.Reply.{Reply}
 use Rattle.replies.specs.First.{Test, refusedOr, firstOf, placed, NoneFits}
@@ -20,7 +21,7 @@ use Rattle.driving.proofs.Accepted.{sound-figures-pass}
 use Rattle.replay.specs.declared.TraceRecord.{TraceRecord}
 use Rattle.replay.specs.Trace.{traceRecordBytes, traceRecordAt, recordCount, recordsOf}
 use Rattle.replay.specs.Replay.{upToDate, tornTrace, isOdd, isStopped, firstStopped, placedWhere, replayTests, replayReply, figuresAfter}
-use Rattle.replay.specs.InTurn.{noneGoesOn, whatIsBefore, behind}
+use Rattle.replay.specs.InTurn.{noneGoesOn, behind}
 use Rattle.replay.specs.Steps.{startTests, traceTests}
 use Rattle.replay.proofs.Replays.{figures-accepted}
 use Rattle.replay.proofs.Accepted.{untorn-whole, whole-trace, none-below, leaves-sound}
@@ -37,7 +38,7 @@ EachBehind one [] [] = Unit {0}
 EachBehind one [] (u ∷ us) = ⊥
 EachBehind one (t ∷ ts) [] = ⊥
 EachBehind one (t ∷ ts) (u ∷ us) =
-    (t .number ≡ u .number) × (t .place ≡ further (whatIsBefore (eqb (u .number) 21) (length one) (recordCount one)) (u .place)) × EachBehind one ts us
+    (t .number ≡ u .number) × (t .place ≡ further (pick (eqb (u .number) 21) (length one) (recordCount one)) (u .place)) × EachBehind one ts us
 
 first-behind : (one : List ℕ) (ts us : List Test) (s s′ : Reply) → EachBehind one ts us → s ≡ behind one s′ → firstOf ts s ≡ behind one (firstOf us s′)
 unfolding firstOf
@@ -46,7 +47,7 @@ first-behind one [] (u ∷ us) s s′ each last = absurd each
 first-behind one (t ∷ ts) [] s s′ each last = absurd each
 first-behind one (t ∷ ts) (u ∷ us) s s′ each last = at (u .place) (each .0) (each .1) (first-behind one ts us s s′ (each .2) last)
   where
-    at : (p : Option ℕ) → t .number ≡ u .number → t .place ≡ further (whatIsBefore (eqb (u .number) 21) (length one) (recordCount one)) p → firstOf ts s ≡ behind one (firstOf us s′)
+    at : (p : Option ℕ) → t .number ≡ u .number → t .place ≡ further (pick (eqb (u .number) 21) (length one) (recordCount one)) p → firstOf ts s ≡ behind one (firstOf us s′)
         → refusedOr (t .number) (t .place) (firstOf ts s) ≡ behind one (refusedOr (u .number) p (firstOf us s′))
     at none same-number is later = rw is later
     at (some place) same-number is later = rw (is, same-number)

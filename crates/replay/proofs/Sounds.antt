@@ -1,11 +1,12 @@
 -- A replay under way keeps sound figures. Assumes nothing.
 use mathlib.Core.Path.{_≡_, refl}
-use mathlib.Core.Bool.{Bool, true, false, not, _&&_}
+use mathlib.Core.Bool.{Bool, true, false, _&&_}
 use mathlib.Core.Logic.{⊎-elim}
 use Prim.Native.Nat.{ℕ, _+_, _≤_}
 use native.Mathlib.Omega.{arith}
 use borrow.Author.Tests.{ltb-true, ltb-false, not-false}
 use lib.Dec.{T, leb, ltb}
+use Rattle.booleans.specs.Pick.{pick}
 use Rattle.booleans.proofs.Tests.{cases, or-false, true-T}
 use Rattle.theory.specs.Figures.{noneAbove}
 use Rattle.theory.proofs.Figures.{above-trans}
@@ -17,7 +18,7 @@ use Rattle.driving.proofs.Hours.{figures-within, limits-within, sound-rise, dri
 use Rattle.replay.specs.declared.TraceRecord.{TraceRecord}
 use Rattle.replay.specs.declared.Underway.{Underway}
 use Rattle.replay.specs.Trace.{pause, isDriving, isPause}
-use Rattle.replay.specs.Replay.{afterPause, pickFigures, mostSeconds, isOdd}
+use Rattle.replay.specs.Replay.{afterPause, mostSeconds, isOdd}
 use Rattle.replay.specs.Steps.{lengthened, settled, Sound, stepOn, goesPast}
 
 -- the figures of a sound replay are far below what a word holds
@@ -41,7 +42,7 @@ paused-sound f rules seconds sound =
     kept kind = cleared-sound kind f rules sound
 
     by : (weekly rests breaks split ends begins : Bool) →
-        SoundFigures (pickFigures weekly (afterWeekly f) (pickFigures rests (afterRest f) (pickFigures breaks (afterBreak f) (pickFigures split (pickFigures ends (afterSecond f) (pickFigures begins (afterFirst f) f)) f)))) rules
+        SoundFigures (pick weekly (afterWeekly f) (pick rests (afterRest f) (pick breaks (afterBreak f) (pick split (pick ends (afterSecond f) (pick begins (afterFirst f) f)) f)))) rules
     by true rests breaks split ends begins = kept 6
     by false true breaks split ends begins = kept 3
     by false false true split ends begins = kept 2

@@ -6,6 +6,7 @@ use mathlib.Core.Logic.{⊎-elim}
 use mathlib.Core.Option.{Option, none, some}
 use Prim.Native.Nat.{ℕ, _+_, _≤_, _<_}
 use native.Mathlib.Omega.{arith}
+use Rattle.booleans.specs.Pick.{pick}
 use Rattle.booleans.proofs.Tests.{cases, or-right}
 use Rattle.replies.specs.declared.Refusal.{Refusal}
 use Rattle.replies.specs.First.{_at_, Refuses}
@@ -20,16 +21,16 @@ use Rattle.replay.specs.declared.Underway.{Underway}
 use Rattle.replay.specs.declared.Step.{Step}
 use Rattle.replay.specs.Trace.{isDriving, traceRecordAt, recordCount, recordsFrom, firstRecords}
 use Rattle.replay.specs.Replay.{upToDate, isOdd, isPast, isStopped, firstStopped, placedWhere, oddRecord, pastLimit}
-use Rattle.replay.specs.Steps.{recordTests, settled, Sound, stepOn, goesPast, pickStep, stepped, WalkSays}
+use Rattle.replay.specs.Steps.{recordTests, settled, Sound, stepOn, goesPast, stepped, WalkSays}
 use Rattle.replay.proofs.Joining.{driving-no-pause, no-pause}
 use Rattle.replay.proofs.Stepping.{ran, ran-more, begun, on-other, ran-up-to-date, first-more}
 use Rattle.replay.proofs.Sounds.{step-sound}
 
 -- what a record does, by what is known of it
 pub judged : (rules : Rules) (u : Underway) (k : ℕ) (r : TraceRecord) {odd past : Bool} → isOdd r ≡ odd → goesPast rules u r ≡ past →
-    stepped rules u k r ≡ pickStep odd (Step.Stopped (Refusal.OddRecord k)) (pickStep past (Step.Stopped (Refusal.PastLimit k)) (Step.Taken (stepOn rules u r)))
+    stepped rules u k r ≡ pick odd (Step.Stopped (Refusal.OddRecord k)) (pick past (Step.Stopped (Refusal.PastLimit k)) (Step.Taken (stepOn rules u r)))
 judged rules u k r is-odd is-past =
-    ap₂ (λ (a b : Bool). pickStep a (Step.Stopped (Refusal.OddRecord k)) (pickStep b (Step.Stopped (Refusal.PastLimit k)) (Step.Taken (stepOn rules u r)))) is-odd is-past
+    ap₂ (λ (a b : Bool). pick a (Step.Stopped (Refusal.OddRecord k)) (pick b (Step.Stopped (Refusal.PastLimit k)) (Step.Taken (stepOn rules u r)))) is-odd is-past
 
 pub past : (rules : Rules) (u : Underway) (r : TraceRecord) {within : Bool} → isDriving r ≡ true →
     noneAbove (wheelFigures (stepOn rules u r .figures)) (wheelLimits rules) ≡ within → goesPast rules u r ≡ not within

@@ -1,11 +1,12 @@
 -- Replaying a trace: the driver's figures, brought up to date by each activity. Document 02, P3, P5 and P7. Assumes nothing.
 use mathlib.Core.Path.{_≡_}
-use mathlib.Core.Bool.{Bool, true, false, not, _&&_, _||_}
+use mathlib.Core.Bool.{Bool, not, _&&_, _||_}
 use mathlib.Core.List.{List, [], _∷_}
 use mathlib.Core.Option.{Option, none, some}
 use Prim.Native.Nat.{ℕ, _%_}
 use lib.Dec.{leb, ltb, eqb}
 use lib.ListN.{length}
+use Rattle.booleans.specs.Pick.{pick}
 use Rattle.theory.specs.Figures.{noneAbove}
 use Rattle.replies.specs.declared.Reply.{Reply}
 use Rattle.replies.specs.declared.Replaying.{Replaying}
@@ -18,31 +19,27 @@ use Rattle.driving.specs.Order.{badRules, badFigures}
 use Rattle.replay.specs.declared.TraceRecord.{TraceRecord}
 use Rattle.replay.specs.Trace.{pause, isDriving, isPause, traceRecordBytes, traceRecordAt, recordCount, firstRecords, recordsOf, joined}
 
-abbrev pub pickFigures : Bool → Figures → Figures → Figures
-pickFigures true one other = one
-pickFigures false one other = other
-
 -- a pause shorter than the break, with a split: it clears mark and spell if marked and at least as long as the second part, else it sets
 -- the mark if at least as long as the first
 abbrev pub afterShortPause : Rules → ℕ → Figures → Figures
 afterShortPause rules seconds f =
-    pickFigures (hasSplit rules)
-    (pickFigures (f .marked && leb (rules .«second_part» .0) seconds) (afterSecond f)
-    (pickFigures (leb (rules .«first_part» .0) seconds) (afterFirst f) f))
+    pick (hasSplit rules)
+    (pick (f .marked && leb (rules .«second_part» .0) seconds) (afterSecond f)
+    (pick (leb (rules .«first_part» .0) seconds) (afterFirst f) f))
     f
 
 -- a pause at least as long as the break clears spell; one as long as the rest clears shift too; both clear the mark; one as long as the
 -- weekly rest clears everything
 abbrev pub afterPause : Rules → ℕ → Figures → Figures
 afterPause rules seconds f =
-    pickFigures (leb (rules .«weekly_rest» .0) seconds) (afterWeekly f)
-    (pickFigures (leb (rules .«rest_time» .0) seconds) (afterRest f)
-    (pickFigures (leb (rules .«break_time» .0) seconds) (afterBreak f) (afterShortPause rules seconds f)))
+    pick (leb (rules .«weekly_rest» .0) seconds) (afterWeekly f)
+    (pick (leb (rules .«rest_time» .0) seconds) (afterRest f)
+    (pick (leb (rules .«break_time» .0) seconds) (afterBreak f) (afterShortPause rules seconds f)))
 
 -- driving adds to spell, shift and week, and other work clears nothing
 abbrev pub afterActivity : Rules → TraceRecord → Figures → Figures
 afterActivity rules r f =
-    pickFigures (isDriving r) (drivenOn (r .seconds) f) (pickFigures (isPause r) (afterPause rules (r .seconds) f) f)
+    pick (isDriving r) (drivenOn (r .seconds) f) (pick (isPause r) (afterPause rules (r .seconds) f) f)
 
 unfoldable pub afterEach : Rules → List TraceRecord → Figures → Figures
 afterEach rules [] f = f
@@ -105,7 +102,7 @@ replayReply trace rules f = firstOf (replayTests trace rules f) (succeeded (reco
 -- the lent figures afterwards: a refused trace leaves them as at the start
 unfoldable pub figuresAfter : List ℕ → Rules → Figures → Figures
 figuresAfter trace rules f =
-    pickFigures (eqb (replayReply trace rules f .number) 0) (upToDate rules (recordsOf trace) f) f
+    pick (eqb (replayReply trace rules f .number) 0) (upToDate rules (recordsOf trace) f) f
 
 -- what replaying owes: its answer, and every figure
 pub record Replayed (trace : List ℕ) (rules : Rules) (before after : Figures) (answer : Replaying) : Type 0 where

@@ -1,9 +1,10 @@
 -- The steps that a replay is made of: only private functions promise these. Assumes nothing.
 use mathlib.Core.Path.{_≡_}
-use mathlib.Core.Bool.{Bool, true, false, not, _&&_}
+use mathlib.Core.Bool.{Bool, not, _&&_}
 use mathlib.Core.List.{List, [], _∷_}
 use Prim.Native.Nat.{ℕ, _+_, _≤_}
 use lib.Dec.{ltb}
+use Rattle.booleans.specs.Pick.{pick}
 use Rattle.theory.specs.Figures.{noneAbove}
 use Rattle.replies.specs.declared.Refusal.{Refusal}
 use Rattle.replies.specs.First.{Test, _at_, NoneFits, Refuses}
@@ -27,13 +28,9 @@ recordTests trace rules f = (22 at oddRecord trace rules f) ∷ (23 at pastLimit
 abbrev pub traceTests : List ℕ → Rules → Figures → List Test
 traceTests trace rules f = (21 at tornTrace trace) ∷ recordTests trace rules f
 
-abbrev pub pickNumber : Bool → ℕ → ℕ → ℕ
-pickNumber true one other = one
-pickNumber false one other = other
-
 -- a pause that goes on, to the longest that any rule asks for
 abbrev pub lengthened : ℕ → ℕ → ℕ
-lengthened pause seconds = pickNumber (ltb (pause + seconds) mostSeconds) (pause + seconds) mostSeconds
+lengthened pause seconds = pick (ltb (pause + seconds) mostSeconds) (pause + seconds) mostSeconds
 
 -- the figures, with the pause that is under way as it is
 abbrev pub settled : Rules → Underway → Figures
@@ -44,20 +41,12 @@ pub record Sound (rules : Rules) (u : Underway) : Type 0 where
   pub sound-figures : SoundFigures (u .figures) rules
   pub pause-high : u .pause ≤ mostSeconds
 
-abbrev pub pickUnderway : Bool → Underway → Underway → Underway
-pickUnderway true one other = one
-pickUnderway false one other = other
-
 -- one record more
 abbrev pub stepOn : Rules → Underway → TraceRecord → Underway
 stepOn rules u r =
-    pickUnderway (isPause r) (record { figures = u .figures; pause = lengthened (u .pause) (r .seconds) })
-    (pickUnderway (isDriving r) (record { figures = drivenOn (r .seconds) (settled rules u); pause = 0 })
+    pick (isPause r) (record { figures = u .figures; pause = lengthened (u .pause) (r .seconds) })
+    (pick (isDriving r) (record { figures = drivenOn (r .seconds) (settled rules u); pause = 0 })
     (record { figures = settled rules u; pause = 0 }))
-
-abbrev pub pickStep : Bool → Step → Step → Step
-pickStep true one other = one
-pickStep false one other = other
 
 -- driving that takes a figure over its limit
 abbrev pub goesPast : Rules → Underway → TraceRecord → Bool
@@ -66,8 +55,8 @@ goesPast rules u r = isDriving r && not (noneAbove (wheelFigures (stepOn rules u
 -- record k, judged and taken
 abbrev pub stepped : Rules → Underway → ℕ → TraceRecord → Step
 stepped rules u k r =
-    pickStep (isOdd r) (Step.Stopped (Refusal.OddRecord k))
-    (pickStep (goesPast rules u r) (Step.Stopped (Refusal.PastLimit k)) (Step.Taken (stepOn rules u r)))
+    pick (isOdd r) (Step.Stopped (Refusal.OddRecord k))
+    (pick (goesPast rules u r) (Step.Stopped (Refusal.PastLimit k)) (Step.Taken (stepOn rules u r)))
 
 -- 22 and 23, or the figures of the whole trace
 abbrev pub WalkSays : List ℕ → Rules → Figures → Step → Type 0

@@ -1,4 +1,3 @@
 pub mod Told
 pub mod First
-pub mod Pick
 pub mod Alike

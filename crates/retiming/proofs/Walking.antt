@@ -5,6 +5,7 @@ use mathlib.Core.List.{List, [], _∷_}
 use Prim.Native.Nat.{ℕ, zero, suc, _+_, _-_, _≤_}
 use lib.Dec.{eqb, lit≤}
 use native.Mathlib.Omega.{arith}
+use Rattle.booleans.specs.Pick.{pick}
 use Rattle.replies.specs.declared.Refusal.{Refusal}
 use Rattle.states.specs.declared.State.{State}
 use Rattle.moves.specs.declared.Move.{Move}
@@ -19,7 +20,7 @@ use Rattle.sheets.specs.Sheet.{rowAt, rowsOf}
 use Rattle.sheets.specs.declared.Row.{Row}
 use Rattle.retiming.specs.declared.Walked.{Walked}
 use Rattle.retiming.specs.Walk.{Walk, refused, reached, moveOf, trueRow, recorded, walk}
-use Rattle.retiming.specs.Parts.{pickWalk, clockWalk, WalkSays}
+use Rattle.retiming.specs.Parts.{clockWalk, WalkSays}
 
 module _ (clocks : Bool) (trip : Trip) (k : ℕ) (s : State) (row : Row) (rows : List Row) where
   pub walk-foreign : stepped trip s (moveOf row) ≡ Foreign → walk clocks trip k s (row ∷ rows) ≡ refused 16 k
@@ -31,11 +32,11 @@ module _ (clocks : Bool) (trip : Trip) (k : ℕ) (s : State) (row : Row) (rows :
   walk-overrun e = rw (e, walk)
 
   pub walk-moved : {t : State} → stepped trip s (moveOf row) ≡ Moved t →
-      walk clocks trip k s (row ∷ rows) ≡ pickWalk (clocks && not (eqb (row .clock .0) (t .clock .0))) (refused 18 k) (recorded (trueRow row t) (walk clocks trip (k + 1) t rows))
+      walk clocks trip k s (row ∷ rows) ≡ pick (clocks && not (eqb (row .clock .0) (t .clock .0))) (refused 18 k) (recorded (trueRow row t) (walk clocks trip (k + 1) t rows))
   unfolding walk
   walk-moved {t} e = rw (e, walk) (two (clocks && not (eqb (row .clock .0) (t .clock .0))))
     where
-      two : (b : Bool) → (elim b as (λ x. Walk) [ true ↦ refused 18 k | false ↦ recorded (trueRow row t) (walk clocks trip (k + 1) t rows) ]) ≡ pickWalk b (refused 18 k) (recorded (trueRow row t) (walk clocks trip (k + 1) t rows))
+      two : (b : Bool) → (elim b as (λ x. Walk) [ true ↦ refused 18 k | false ↦ recorded (trueRow row t) (walk clocks trip (k + 1) t rows) ]) ≡ pick b (refused 18 k) (recorded (trueRow row t) (walk clocks trip (k + 1) t rows))
       two true = refl
       two false = refl
 
@@ -122,7 +123,7 @@ module _ (clocks : Bool) (trip : Trip) (k : ℕ) (s : State) (row : Row) where
       WalkSays (walk clocks trip k s (row ∷ [])) r
   says-clock {t} r e h = says r (sym (walk-moved clocks trip k s row [] e)) (by (clocks && not (eqb (row .clock .0) (t .clock .0))) h)
     where
-      by : (b : Bool) → WalkSays (pickWalk b (refused 18 k) (reached t [])) r → WalkSays (pickWalk b (refused 18 k) (recorded (trueRow row t) (walk clocks trip (k + 1) t []))) r
+      by : (b : Bool) → WalkSays (pick b (refused 18 k) (reached t [])) r → WalkSays (pick b (refused 18 k) (recorded (trueRow row t) (walk clocks trip (k + 1) t []))) r
       by true g = g
       by false g = says r (sym (ap (recorded (trueRow row t)) (walk-end clocks trip (k + 1) t))) (says-recorded (trueRow row t) (reached t []) r g)
 

@@ -10,7 +10,7 @@ use Rattle.replies.specs.declared.Reply.{Reply}
 use Rattle.replies.specs.declared.Timing.{Timing}
 use Rattle.replies.specs.First.{_at_, firstOf, NoneFits, Refuses}
 use Rattle.replies.specs.Told.{refusedAt, succeeded, toldRefusal, toldTiming}
-use Rattle.replies.specs.Pick.{pick}
+use Rattle.booleans.specs.Pick.{pick}
 use Rattle.driving.specs.declared.Order.{Order}
 use Rattle.sheets.specs.declared.Row.{Row}
 use Rattle.sheets.specs.Sheet.{headingOf, shortSheet}
@@ -20,13 +20,9 @@ use Rattle.retiming.specs.declared.Walked.{Walked}
 use Rattle.retiming.specs.Walk.{Walk, refused, reached, arrivalReached}
 use Rattle.retiming.specs.Retiming.{movesOn, timing, sheetTests, falseHeader, retimedTo}
 
-abbrev pub pickWalk : Bool → Walk → Walk → Walk
-pickWalk true a b = a
-pickWalk false a b = b
-
 -- a state that a legal move led to, and the record's clock
 abbrev pub clockWalk : Bool → ℕ → Clock → State → Walk
-clockWalk clocks k clock s = pickWalk (clocks && not (eqb (clock .0) (s .clock .0))) (refused 18 k) (reached s [])
+clockWalk clocks k clock s = pick (clocks && not (eqb (clock .0) (s .clock .0))) (refused 18 k) (reached s [])
 
 -- the walk's end, without its records
 abbrev pub WalkSays : Walk → Walked → Type 0

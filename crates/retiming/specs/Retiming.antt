@@ -10,7 +10,7 @@ use Rattle.replies.specs.declared.Reply.{Reply}
 use Rattle.replies.specs.declared.Timing.{Timing}
 use Rattle.replies.specs.First.{Test, _at_, firstOf, placed}
 use Rattle.replies.specs.Told.{succeeded, toldTiming}
-use Rattle.replies.specs.Pick.{pick}
+use Rattle.booleans.specs.Pick.{pick}
 use Rattle.driving.specs.declared.Order.{Order}
 use Rattle.driving.specs.Order.{orderOf}
 use Rattle.states.specs.declared.State.{State}

@@ -9,7 +9,7 @@ use Rattle.replies.specs.declared.Reply.{Reply}
 use Rattle.replies.specs.declared.Check.{Check}
 use Rattle.replies.specs.First.{Test, _at_, placed, firstOf}
 use Rattle.replies.specs.Told.{succeeded, toldCheck}
-use Rattle.replies.specs.Pick.{pick}
+use Rattle.booleans.specs.Pick.{pick}
 use Rattle.roadmap.specs.Format.{roadCount, roadAt, roadFrom}
 use Rattle.mapcheck.specs.MapCheck.{outside, mapTests}
 

@@ -10,12 +10,13 @@ use mathlib.Core.Logic.{_⊎_, inl, inr, ⊎-elim}
 use lib.Dec.{T, T-not, ltb, ltb→lt, nltb→le}
 use lib.ListN.{length, getD}
 use Rattle.booleans.proofs.Tests.{T-cases, and-l, and-r, and-i, or-e, or-l, or-r}
-use Rattle.theory.specs.Lists.{Decides, choose, keep, memb, every, select, position, Distinct, distinct-nil, distinct-cons}
+use Rattle.booleans.specs.Pick.{pick}
+use Rattle.theory.specs.Lists.{Decides, keep, memb, every, select, position, Distinct, distinct-nil, distinct-cons}
 
 -- what holds of the first where the test passes, and of the second where it fails, holds of the choice
-pub choose-elim : {A : Type 0} (P : A → Type 0) (b : Bool) {x y : A} → (T b → P x) → (T (not b) → P y) → P (choose b x y)
-choose-elim P true f g = f tt
-choose-elim P false f g = g tt
+pub pick-elim : {A : Type 0} (P : A → Type 0) (b : Bool) {x y : A} → (T b → P x) → (T (not b) → P y) → P (pick b x y)
+pick-elim P true f g = f tt
+pick-elim P false f g = g tt
 
 -- Members.
 module _ {S : Type 0} where
@@ -130,16 +131,16 @@ module _ {S : Type 0} (p : S → Bool) (d : S) where
   pub position-le : (l : List S) (i : ℕ) → i < length l → T (p (getD l i d)) → position p l ≤ i
   unfolding position
   position-le [] i h t = zero-le
-  position-le (x ∷ xs) zero h t = choose-elim (λ n. n ≤ zero) (p x) (λ k. zero-le) (λ k. absurd (T-not (p x) k t))
+  position-le (x ∷ xs) zero h t = pick-elim (λ n. n ≤ zero) (p x) (λ k. zero-le) (λ k. absurd (T-not (p x) k t))
   position-le (x ∷ xs) (suc i) h t =
-      choose-elim (λ n. n ≤ suc i) (p x) (λ k. zero-le) (λ k. suc-le-suc (position-le xs i (le-of-suc-le-suc h) t))
+      pick-elim (λ n. n ≤ suc i) (p x) (λ k. zero-le) (λ k. suc-le-suc (position-le xs i (le-of-suc-le-suc h) t))
 
   -- the one at the position passes
   pub position-at : (l : List S) → position p l < length l → T (p (getD l (position p l) d))
   unfolding position
   position-at [] h = absurd (not-suc-le-zero h)
   position-at (x ∷ xs) h =
-      choose-elim (λ n. n < suc (length xs) → T (p (getD (x ∷ xs) n d))) (p x) (λ k q. k) (λ k q. position-at xs (le-of-suc-le-suc q)) h
+      pick-elim (λ n. n < suc (length xs) → T (p (getD (x ∷ xs) n d))) (p x) (λ k q. k) (λ k q. position-at xs (le-of-suc-le-suc q)) h
 
   -- the index of one that passes, where none before it does, is the position
   pub position-is : (l : List S) (i : ℕ) → i < length l → T (p (getD l i d)) → ((j : ℕ) → j < i → ¬ T (p (getD l j d))) → position p l ≡ i
@@ -154,7 +155,7 @@ module _ {S : Type 0} (p : S → Bool) (d : S) where
   position-append [] r h = absurd (not-suc-le-zero h)
   position-append (x ∷ xs) r h = at (p x) h (position-append xs r)
     where
-      at : (b : Bool) → choose b zero (suc (position p xs)) < suc (length xs) → (position p xs < length xs → position p (xs ++ r) ≡ position p xs)
-          → choose b zero (suc (position p (xs ++ r))) ≡ choose b zero (suc (position p xs))
+      at : (b : Bool) → pick b zero (suc (position p xs)) < suc (length xs) → (position p xs < length xs → position p (xs ++ r) ≡ position p xs)
+          → pick b zero (suc (position p (xs ++ r))) ≡ pick b zero (suc (position p xs))
       at true q ih = refl
       at false q ih = ap suc (ih (le-of-suc-le-suc q))

@@ -12,7 +12,7 @@ use lib.Dec.{T, T-not, not-T, ltb, ltb→lt, nltb→le}
 use lib.ListN.{length, getD}
 use Rattle.booleans.proofs.Tests.{T-cases}
 use Rattle.theory.specs.Lists.{Order, lower, least, IsLeast, insert, sorted, Distinct, distinct-nil, distinct-cons, StrictlySorted, sorted-nil, sorted-cons}
-use Rattle.theory.proofs.Lists.{choose-elim, mem-elim, mem-at}
+use Rattle.theory.proofs.Lists.{pick-elim, mem-elim, mem-at}
 
 module _ {S : Type 0} {le : S → S → Bool} (order : Order le) where
   -- each ranks no higher than itself
@@ -43,7 +43,7 @@ module _ {S : Type 0} {le : S → S → Bool} (order : Order le) where
       at : (o : Option S) → IsLeast le xs o → IsLeast le (x ∷ xs) (lower le x o)
       at none h = head-least (λ z q. absurd (h z q))
       at (some y) h =
-          choose-elim (λ c. IsLeast le (x ∷ xs) (some c)) (le x y)
+          pick-elim (λ c. IsLeast le (x ∷ xs) (some c)) (le x y)
           (λ t. head-least (λ z q. order .trans x y z t (h .1 z q)))
           (λ t. (List·Memᴰ·tail (h .0), λ z m. mem-elim (λ w. T (le y w)) (le-of-not y x t) (h .1 z) m))
 
@@ -51,7 +51,7 @@ module _ {S : Type 0} {le : S → S → Bool} (order : Order le) where
   pub insert-from : (x : S) (l : List S) {z : S} → List·Memᴰ z (insert le x l) → List·Memᴰ z (x ∷ l)
   unfolding insert
   insert-from x [] m = m
-  insert-from x (y ∷ ys) {z} m = choose-elim (λ l. List·Memᴰ z l → List·Memᴰ z (x ∷ y ∷ ys)) (le x y) (λ t h. h) (λ t h. later (insert-from x ys) h) m
+  insert-from x (y ∷ ys) {z} m = pick-elim (λ l. List·Memᴰ z l → List·Memᴰ z (x ∷ y ∷ ys)) (le x y) (λ t h. h) (λ t h. later (insert-from x ys) h) m
     where
       later : (List·Memᴰ z (insert le x ys) → List·Memᴰ z (x ∷ ys)) → List·Memᴰ z (y ∷ insert le x ys) → List·Memᴰ z (x ∷ y ∷ ys)
       later ih h =
@@ -65,7 +65,7 @@ module _ {S : Type 0} {le : S → S → Bool} (order : Order le) where
   pub insert-in : (x : S) (l : List S) {z : S} → List·Memᴰ z (x ∷ l) → List·Memᴰ z (insert le x l)
   unfolding insert
   insert-in x [] m = m
-  insert-in x (y ∷ ys) {z} m = choose-elim (λ l. List·Memᴰ z l) (le x y) (λ t. m) (λ t. later (insert-in x ys))
+  insert-in x (y ∷ ys) {z} m = pick-elim (λ l. List·Memᴰ z l) (le x y) (λ t. m) (λ t. later (insert-in x ys))
     where
       later : (List·Memᴰ z (x ∷ ys) → List·Memᴰ z (insert le x ys)) → List·Memᴰ z (y ∷ insert le x ys)
       later ih =
@@ -80,7 +80,7 @@ module _ {S : Type 0} {le : S → S → Bool} (order : Order le) where
   unfolding insert
   insert-strict x sorted-nil n = sorted-cons (λ y m. absurd (List·Memᴰ·not-nil m)) sorted-nil
   insert-strict x (sorted-cons {x = y} {xs = ys} f s) n =
-      choose-elim (StrictlySorted le) (le x y)
+      pick-elim (StrictlySorted le) (le x y)
       (λ t. sorted-cons (λ z m. mem-elim (λ w. T (not (le w x)))
       (strictly x y t (λ e. n (List·Memᴰ·head e)))
       (λ q. not-T (le z x) (λ h. T-not (le z y) (f z q) (order .trans z x y h t))) m) (sorted-cons f s))

@@ -7,6 +7,7 @@ use mathlib.Core.List.{List, [], _∷_, List·Memᴰ}
 use mathlib.Core.Logic.{_⊎_}
 use mathlib.Core.Option.{Option, none, some}
 use lib.Dec.{T}
+use Rattle.booleans.specs.Pick.{pick}
 
 -- le is a total order: rank
 pub record Order {S : Type 0} (le : S → S → Bool) : Type 0 where
@@ -19,14 +20,9 @@ pub record Decides {S : Type 0} (eq : S → S → Bool) : Type 0 where
   pub same : (x y : S) → T (eq x y) → x ≡ y
   pub self : (x : S) → T (eq x x)
 
--- the first where the test passes, else the second
-abbrev pub choose : {A : Type 0} → Bool → A → A → A
-choose true x y = x
-choose false x y = y
-
 -- x before the list, where the test passes
 abbrev pub keep : {S : Type 0} → Bool → S → List S → List S
-keep b x r = choose b (x ∷ r) r
+keep b x r = pick b (x ∷ r) r
 
 -- x is a member of the list
 unfoldable pub memb : {S : Type 0} → (S → S → Bool) → S → List S → Bool
@@ -46,7 +42,7 @@ select p (x ∷ xs) = keep (p x) x (select p xs)
 -- the lower-ranked of a state and one that may be there
 abbrev pub lower : {S : Type 0} → (S → S → Bool) → S → Option S → Option S
 lower le x none = some x
-lower le x (some y) = some (choose (le x y) x y)
+lower le x (some y) = some (pick (le x y) x y)
 
 -- the lowest-ranked member, if there is a member
 unfoldable pub least : {S : Type 0} → (S → S → Bool) → List S → Option S
@@ -61,7 +57,7 @@ IsLeast {S} le l (some c) = List·Memᴰ c l × ((x : S) → List·Memᴰ x l �
 -- x put into a list sorted by rank
 unfoldable pub insert : {S : Type 0} → (S → S → Bool) → S → List S → List S
 insert le x [] = x ∷ []
-insert le x (y ∷ ys) = let r = y ∷ insert le x ys in choose (le x y) (x ∷ y ∷ ys) r
+insert le x (y ∷ ys) = let r = y ∷ insert le x ys in pick (le x y) (x ∷ y ∷ ys) r
 
 -- the list sorted by rank
 unfoldable pub sorted : {S : Type 0} → (S → S → Bool) → List S → List S
@@ -72,7 +68,7 @@ sorted le (x ∷ xs) = insert le x (sorted le xs)
 -- the index of the first member that passes the test; the length, if none does
 unfoldable pub position : {S : Type 0} → (S → Bool) → List S → ℕ
 position p [] = zero
-position p (x ∷ xs) = let r = suc (position p xs) in choose (p x) zero r
+position p (x ∷ xs) = let r = suc (position p xs) in pick (p x) zero r
 
 -- no member is repeated
 pub data Distinct {S : Type 0} : List S → Type 0 where

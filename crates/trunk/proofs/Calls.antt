@@ -15,7 +15,7 @@ use Rattle.replies.specs.declared.Replaying.{Replaying}
 use Rattle.replies.specs.declared.Reply.{Reply}
 use Rattle.replies.specs.declared.Timing.{Timing}
 use Rattle.replies.specs.Told.{succeeded, toldCheck, toldPlan, toldRefusal, toldReplaying, toldTiming}
-use Rattle.replies.specs.Pick.{pick}
+use Rattle.booleans.specs.Pick.{pick}
 use Rattle.replies.proofs.First.{refusal-number}
 use Rattle.roadmap.specs.Format.{nameLength}
 use Rattle.mapedit.specs.Name.{nameReply, nameAt, namePart}

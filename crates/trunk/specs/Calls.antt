@@ -12,7 +12,7 @@ use Rattle.replies.specs.declared.Reply.{Reply}
 use Rattle.replies.specs.declared.Timing.{Timing}
 use Rattle.replies.specs.First.{firstOf}
 use Rattle.replies.specs.Told.{succeeded, toldCheck, toldPlan, toldReplaying, toldTiming}
-use Rattle.replies.specs.Pick.{pick}
+use Rattle.booleans.specs.Pick.{pick}
 use Rattle.roadmap.specs.Format.{nameLength}
 use Rattle.mapcheck.specs.MapCheck.{mapTests}
 use Rattle.driving.specs.declared.Figures.{Figures}

@@ -2,12 +2,13 @@ use mathlib.Core.Path.{_≡_, _∙_, sym, ap}
 use mathlib.Core.Bool.{Bool, not}
 use borrow.Author.Needs.{needs}
 use borrow.Author.Tests.{eq-eqb, ne-eqb}
+use Rattle.booleans.specs.Pick.{pick}
 use Rattle.theory.specs.Figures.{noneAbove}
 use Rattle.driving.specs.Hours.{wheelFigures, wheelLimits}
 use Rattle.replies.specs.declared.Refusal.{Refusal}
 use Rattle.replay.specs.declared.Underway.{Underway}
 use Rattle.replay.specs.declared.Step.{Step}
-use Rattle.replay.specs.Steps.{stepOn, pickStep, stepped}
+use Rattle.replay.specs.Steps.{stepOn, stepped}
 use Rattle.replay.proofs.Walking.{judged, past}
 use Rattle.replay.proofs.take_record.Statement.{statement}
 use Rattle.replay.proofs.take_record.Tie as tie
@@ -28,7 +29,7 @@ returns-2 c =
 drives : (c : tie.After-within-limits) {within : Bool} → c .within-limits .result ≡ within →
     let args = c .before .before .before .before .before .before .before .args in
     stepped (args .rules) (args .before) (args .k) (args .taken)
-    ≡ pickStep (not within) (Step.Stopped (Refusal.PastLimit (args .k))) (Step.Taken (stepOn (args .rules) (args .before) (args .taken)))
+    ≡ pick (not within) (Step.Stopped (Refusal.PastLimit (args .k))) (Step.Taken (stepOn (args .rules) (args .before) (args .taken)))
 drives c {within} is =
     let driving = c .before .before in
     let next = driving .before .before in
