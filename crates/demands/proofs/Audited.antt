@@ -19,7 +19,7 @@ use Rattle.states.specs.declared.State.{State}
 use Rattle.moves.specs.declared.Step.the-variants.{Moved}
 use Rattle.moves.specs.Trip.{Trip, tripOf}
 use Rattle.moves.specs.Moves.{stepped}
-use Rattle.moves.specs.Opened.{runTests}
+use Rattle.moves.specs.RunTests.{runTests}
 use Rattle.sheets.specs.declared.Row.{Row}
 use Rattle.sheets.specs.Sheet.{headingOf, rowsOf, sheetNeeded}
 use Rattle.sheets.proofs.Reading.{none-whole}

@@ -36,7 +36,7 @@ use Rattle.replay.specs.InTurn.{noneGoesOn, behind}
 use Rattle.states.specs.declared.State.{State}
 use Rattle.moves.specs.declared.Move.{Move}
 use Rattle.moves.specs.Trip.{Trip, tripOf}
-use Rattle.moves.specs.Opened.{runTests}
+use Rattle.moves.specs.RunTests.{runTests}
 use Rattle.sheets.specs.declared.Heading.{Heading}
 use Rattle.sheets.specs.Sheet.{headingOf, sheetNeeded}
 use Rattle.retiming.specs.Retiming.{movesOn, timing, retimingTests, auditTests, auditReply, Retimed}

@@ -23,7 +23,7 @@ use Rattle.states.specs.declared.State.{State}
 use Rattle.states.proofs.Compared.{covers-clock}
 use Rattle.moves.specs.declared.Move.{Move}
 use Rattle.moves.specs.Trip.{Trip}
-use Rattle.moves.specs.Opened.{runTests}
+use Rattle.moves.specs.RunTests.{runTests}
 use Rattle.journeys.specs.Journeys.{Journey}
 use Rattle.journeys.specs.Planning.{tripFrom}
 use Rattle.journeys.proofs.Struck.{struck-journey}

@@ -3,4 +3,5 @@ pub mod Struck
 pub mod Moves
 pub mod Runs
 pub mod Compared
+pub mod RunTests
 pub mod Opened

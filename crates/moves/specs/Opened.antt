@@ -1,17 +1,12 @@
 -- A run is opened: the map and the order are judged, refusals 1 to 11. Assumes nothing.
 use mathlib.Core.Path.{_≡_}
-use mathlib.Core.List.{List, _++_}
+use mathlib.Core.List.{List}
 use Prim.Native.Nat.{ℕ}
-use Rattle.replies.specs.First.{Test, NoneFits, Refuses}
-use Rattle.roadmap.specs.Format.{junctionCount}
-use Rattle.mapcheck.specs.MapCheck.{mapTests}
-use Rattle.driving.specs.Order.{orderOf, orderTests}
+use Rattle.replies.specs.First.{NoneFits, Refuses}
+use Rattle.driving.specs.Order.{orderOf}
 use Rattle.moves.specs.declared.Opened.{Opened}
+use Rattle.moves.specs.RunTests.{runTests}
 use Rattle.moves.specs.Runs.{Unstruck}
-
--- 1 to 11
-abbrev pub runTests : List ℕ → List ℕ → List Test
-runTests map order = mapTests map ++ orderTests (junctionCount map) order
 
 abbrev pub OpenedSays : List ℕ → List ℕ → Opened → Type 0
 OpenedSays map order (Opened.Ready run) = Unstruck map run × (run .order ≡ orderOf order) × NoneFits (runTests map order)

@@ -13,7 +13,7 @@ use Rattle.replies.specs.Told.{toldRefusal, toldPlan}
 use Rattle.replies.specs.First.{NoneFits, Refuses}
 use Rattle.replies.proofs.First.{none-fits, refusal-number, told-passes}
 use Rattle.moves.specs.Trip.{Trip}
-use Rattle.moves.specs.Opened.{runTests}
+use Rattle.moves.specs.RunTests.{runTests}
 use Rattle.theory.specs.Lists.{memb}
 use Rattle.journeys.specs.Planning.{beforeSearch, tripFrom, searchTests, planned, searchReply, planReply, planSheetWhen, planSheet}
 use Rattle.states.specs.LabelSpace.{labelsThatFit}

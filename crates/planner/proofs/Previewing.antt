@@ -27,7 +27,7 @@ use Rattle.driving.specs.Order.{orderOf, orderTests}
 use Rattle.states.specs.LabelSpace.{labelsThatFit}
 use Rattle.moves.specs.Trip.{Trip, tripOf}
 use Rattle.moves.specs.Struck.{struckIn}
-use Rattle.moves.specs.Opened.{runTests}
+use Rattle.moves.specs.RunTests.{runTests}
 use Rattle.journeys.specs.Planning.{tripFrom, searchTests, planned, searchReply, planReply, planSheet}
 use Rattle.journeys.proofs.Planning.{sheet-refused}
 use Rattle.planner.specs.Planned.{Planned}

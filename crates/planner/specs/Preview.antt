@@ -13,7 +13,7 @@ use Rattle.booleans.specs.Pick.{pick}
 use Rattle.striking.specs.Striking.{struck, unknownRoad}
 use Rattle.theory.specs.Lists.{memb}
 use Rattle.states.specs.LabelSpace.{labelsThatFit}
-use Rattle.moves.specs.Opened.{runTests}
+use Rattle.moves.specs.RunTests.{runTests}
 use Rattle.journeys.specs.Planning.{beforeSearch, planReply, planSheet}
 
 -- 1 to 11, of the lent map, and 24

@@ -18,7 +18,7 @@ use Rattle.driving.specs.Order.{orderOf}
 use Rattle.states.specs.declared.State.{State}
 use Rattle.moves.specs.Trip.{Trip, tripOf}
 use Rattle.states.specs.States.{startOf}
-use Rattle.moves.specs.Opened.{runTests}
+use Rattle.moves.specs.RunTests.{runTests}
 use Rattle.sheets.specs.declared.Heading.{Heading}
 use Rattle.sheets.specs.declared.Row.{Row}
 use Rattle.sheets.specs.Sheet.{headingOf, rowsOf, sheetNeeded, sheetAfter, tornSheet, shortSheet}

@@ -14,7 +14,7 @@ use Rattle.replies.specs.Told.{succeeded, toldRefusal, toldTiming}
 use Rattle.replies.proofs.First.{none-fits, stops-at, passed-over, refusal-number}
 use Rattle.driving.specs.declared.Order.{Order}
 use Rattle.driving.specs.Order.{orderOf}
-use Rattle.moves.specs.Opened.{runTests}
+use Rattle.moves.specs.RunTests.{runTests}
 use Rattle.states.specs.declared.State.{State}
 use Rattle.sheets.specs.declared.Heading.{Heading}
 use Rattle.sheets.specs.Sheet.{headingFor, headingOf, sheetNeeded, sheetAfter, withHeading, shortSheet}

@@ -16,7 +16,7 @@ use Rattle.driving.specs.Order.{orderOf}
 use Rattle.states.specs.declared.State.{State}
 use Rattle.moves.specs.Trip.{tripOf}
 use Rattle.states.specs.States.{startOf}
-use Rattle.moves.specs.Opened.{runTests}
+use Rattle.moves.specs.RunTests.{runTests}
 use Rattle.sheets.specs.declared.Heading.{Heading}
 use Rattle.sheets.specs.Sheet.{headingFor, headingOf, rowsOf, sheetAfter, shortSheet, tornSheet}
 use Rattle.retiming.specs.Walk.{Walk, refused, reached, walk, moveTest, stray, arrivalReached}

@@ -3,7 +3,8 @@ use mathlib.Core.Path.{_≡_, _∙_, sym, subst}
 use Rattle.replies.specs.Told.{toldTiming}
 use Rattle.replies.proofs.First.{none-fits}
 use Rattle.driving.specs.declared.Order.{Order}
-use Rattle.moves.specs.Opened.{runTests, OpenedSays}
+use Rattle.moves.specs.RunTests.{runTests}
+use Rattle.moves.specs.Opened.{OpenedSays}
 use Rattle.retiming.specs.Parts.{auditedRun}
 use Rattle.retiming.proofs.audit.Statement.{statement}
 use Rattle.retiming.proofs.audit.Tie as tie
