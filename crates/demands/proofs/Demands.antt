@@ -3,15 +3,15 @@
 -- `ChainMaking` (mapedit), `Striking` (striking), `Previewed` (planner), `Replayed` (replay) and, for the other operations, the equation of
 -- what is told.
 use mathlib.Core.Path.{_≡_, refl, sym, ap, _∙_}
-use mathlib.Core.Bool.{Bool, true, false}
+use mathlib.Core.Bool.{Bool, true, false, _||_}
 use mathlib.Core.List.{List, [], _∷_, _++_}
 use mathlib.Core.Logic.{_↔_}
 use mathlib.Core.Option.{none}
 use Prim.Native.Nat.{ℕ, _+_, _≤_, _<_}
 use native.Mathlib.Omega.{arith}
-use borrow.Author.Tests.{ne-eqb}
+use borrow.Author.Tests.{eq-eqb, ne-eqb}
 use lib.Dec.{T, eqb}
-use lib.ListN.{length, drop, getD}
+use lib.ListN.{length, take, drop, getD}
 use Rattle.replies.specs.declared.Check.{Check}
 use Rattle.replies.specs.declared.NameReply.{NameReply}
 use Rattle.replies.specs.declared.Planning.{Planning}
@@ -21,10 +21,11 @@ use Rattle.replies.specs.declared.Timing.{Timing}
 use Rattle.replies.specs.First.{_at_, firstOf}
 use Rattle.replies.specs.Told.{succeeded, refusedAt, toldCheck, toldName, toldTiming, toldPlan, toldReplaying}
 use Rattle.booleans.specs.Pick.{pick}
-use Rattle.roadmap.specs.Format.{roadFrom, roadTo}
+use Rattle.roadmap.specs.Format.{nameLength, roadFrom, roadTo}
 use Rattle.mapcheck.specs.MapCheck.{mapTests, chainingTests, AcceptedMap}
+use Rattle.mapcheck.specs.Lettered.{badWord}
 use Rattle.striking.specs.Striking.{toAt, struck, strikingTests, strikingReply, afterStriking, Striking}
-use Rattle.mapedit.specs.Name.{unknownName, nameReply}
+use Rattle.mapedit.specs.Name.{unknownName, nameReply, nameAt, namePart}
 use Rattle.mapedit.specs.Chaining.{chained, chainingReply, afterChaining, ChainMaking}
 use Rattle.driving.specs.declared.Figures.{Figures}
 use Rattle.driving.specs.declared.Rules.{Rules}
@@ -58,6 +59,8 @@ use Rattle.demands.specs.Refused.{RepliesBy}
 use Rattle.demands.specs.Counted.{CountsLabels}
 use Rattle.demands.specs.Runs.{AcceptedRun, Plans, SaysFull, SaysNoRoad, movesRead, HoldsJourney, headerAndRecords, TimedAfresh}
 use Rattle.demands.specs.LinkBytes.{InWord, LinkByte}
+use Rattle.demands.specs.Letters.{AllLetters}
+use Rattle.booleans.proofs.Tests.{or-false}
 use Rattle.demands.proofs.Refusals.{replies-by, by-number}
 use Rattle.demands.proofs.Counted.{counts-labels}
 use Rattle.demands.proofs.Said.{accepted-by, full-said, full-place, no-road-said, no-road-place, plans-said, short-said}
@@ -68,6 +71,7 @@ use Rattle.demands.proofs.Retimed.{state, same-moves, same-labels, rest
 use Rattle.demands.proofs.Audited.{reached-by, audited-holds, audited-told}
 use Rattle.demands.proofs.Written.{Wrote, wrote, rest-written, length-written, heading-written, holds-journey, none-earlier, none-lower}
 use Rattle.demands.proofs.Afresh.{Afresh, afresh}
+use Rattle.demands.proofs.Letters.{letters-exactly}
 use Rattle.demands.proofs.Struck.{told-struck, leads-back, length-struck, struck-else, still-passes, as-planned, as-refused, no-earlier, never-no-road}
 
 -- DEMAND 1.
@@ -88,6 +92,28 @@ pub name-replies : (map : List ℕ) (junction : ℕ) (answer : NameReply) → to
     RepliesBy (mapTests map ++ (20 at unknownName map junction) ∷ []) (toldName answer)
 unfolding nameReply
 name-replies map junction answer told = replies-by (mapTests map ++ (20 at unknownName map junction) ∷ []) _ refl tt told
+
+-- "the answer is the part of the lent map that spells that junction's name"; "whenever that reply refuses, the part is empty."
+module _ (map : List ℕ) (junction : ℕ) (answer : NameReply) {part : List ℕ} (told : toldName answer ≡ nameReply map junction) (handed : part ≡ namePart map junction) where
+  pub name-spells : toldName answer .number ≡ 0 → part ≡ take (nameLength map junction) (drop (nameAt map junction) map)
+  unfolding namePart
+  name-spells named = handed ∙ rw (eq-eqb _ _ (ap (λ (r : Reply). r .number) (sym told) ∙ named)) refl
+
+  pub name-empty : ¬ (toldName answer .number ≡ 0) → part ≡ []
+  unfolding namePart
+  name-empty refused = handed ∙ rw (ne-eqb _ _ (λ e. refused (ap (λ (r : Reply). r .number) told ∙ e))) refl
+
+-- Document 02, P4: "It should take four bytes as one word"; "Show for every word that its test passes exactly when all four bytes are 0x20 to 0x7E."
+-- The map check has a test for a word and one for two (`word_is_bad` and `pair_is_bad` of mapcheck); a test passes where it finds nothing bad.
+pub word-test-passes : (word : ℕ) → word < 4294967296 → (bad : Bool) → bad ≡ badWord word → (bad ≡ false) ↔ AllLetters word
+word-test-passes word is-word bad tested = let (told, passes) = letters-exactly word is-word in (λ e. told (sym tested ∙ e), λ letters. tested ∙ passes letters)
+
+pub pair-test-passes : (first second : ℕ) → first < 4294967296 → second < 4294967296 → (bad : Bool) → bad ≡ (badWord first || badWord second) →
+    (bad ≡ false) ↔ (AllLetters first × AllLetters second)
+pair-test-passes first second is-first is-second bad tested = (
+  λ e. let both = or-false (sym tested ∙ e) in (letters-exactly first is-first .0 (both .0), letters-exactly second is-second .0 (both .1)),
+  λ letters. tested ∙ rw (letters-exactly first is-first .1 (letters .0), letters-exactly second is-second .1 (letters .1)) refl,
+)
 
 pub audit-replies : (map order sheet : List ℕ) (answer : Timing) → toldTiming answer ≡ auditReply map order sheet →
     RepliesBy (auditTests map order sheet (timing true map (orderOf order) sheet)) (toldTiming answer)

@@ -11,4 +11,5 @@ pub mod Audited
 pub mod Written
 pub mod Afresh
 pub mod Struck
+pub mod Letters
 pub mod Demands

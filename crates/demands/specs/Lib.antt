@@ -4,3 +4,4 @@ pub mod Refused
 pub mod Counted
 pub mod Runs
 pub mod LinkBytes
+pub mod Letters
