@@ -12,16 +12,18 @@
  * No function keeps anything between calls, allocates, prints or fails in another way than by its reply. Calls from
  * several threads need no lock as long as nobody writes what another call is lent.
  *
- * Formats: maps, orders, sheets and traces are bytes, with 32-bit words in little-endian order, as documents 01 and 02
- * describe them. Label space, rules, figures and replies are numbers of the machine.
+ * Formats: maps, orders, sheets and traces are bytes, with 32-bit words in little-endian order. Label space, rules,
+ * figures and replies are numbers of the machine. docs/FORMATS.md describes every word of them, each refusal, and the
+ * words used here, and writes a small map and its order out.
  *
  * A road takes 18 * metres / (5 * km per hour) seconds, to the nearest second, an exact half to the even one, and never
- * below 1 (document 02, P2): 25 m at 36 km per hour take 2, 35 m take 4 and 5 m take 1.
+ * below 1: 25 m at 36 km per hour take 2, 35 m take 4 and 5 m take 1.
  *
  * The reply is three numbers: number, place, arrival. Number 0 is a success; any other is a refusal, listed below, whose
- * place says where and whose arrival is 0. A refusal changes no byte of a map or of a sheet, and no figure. Give `reply`
- * room for three numbers (`reply_count` at least 3); further ones stay as they are. With less room the call does nothing
- * and writes nothing at all, so set reply[0] to another value beforehand if the count may be wrong.
+ * place says where and whose arrival is 0; trunk_refusal_text tells it in a sentence. A refusal changes no byte of a map
+ * or of a sheet, and no figure. Give `reply` room for three numbers (`reply_count` at least 3); further ones stay as they
+ * are. With less room the call does nothing and writes nothing at all, so set reply[0] to another value beforehand if the
+ * count may be wrong.
  *
  * Stack, measured with the library of this version. In its machine code frames are fixed and nothing recurses, and no
  * path through it reserves a hundred bytes more, the C library's memset aside:
@@ -39,12 +41,21 @@
 extern "C" {
 #endif
 
-/* The largest map, the lengths of an order, of a label and of a sheet's parts, and the stack to leave for a call. */
+/* The version of the calls, formats and numbers that this header describes. It rises by one with each change that a
+ * caller must follow. */
+#define TRUNK_VERSION 1
+
+/* The version of the library that is linked. A program may compare it with TRUNK_VERSION at its start. */
+uint32_t trunk_version(void);
+
+/* The largest map, the most labels that are used, the lengths of an order, of a label and of a sheet's parts, and the
+ * stack to leave for a call. */
 enum {
     TRUNK_MOST_JUNCTIONS = 12288,
     TRUNK_MOST_ROADS = 40960,
     TRUNK_MOST_NAME_BYTES = 1048576,
     TRUNK_MOST_MAP_BYTES = 16 + 16 * TRUNK_MOST_JUNCTIONS + 20 * TRUNK_MOST_ROADS + TRUNK_MOST_NAME_BYTES,
+    TRUNK_MOST_LABELS = 1000000,
     TRUNK_ORDER_BYTES = 60,          /* fifteen words: source, target, departure, latest, spell, shift, eight rules, week */
     TRUNK_LABEL_WORDS = 10,          /* of label space */
     TRUNK_SHEET_HEADER_BYTES = 24,   /* six words: moves, arrival, spell, shift, week and labels */
@@ -91,34 +102,66 @@ enum {
     TRUNK_WEEKLY_REST = 6,
 };
 
-/* What a reply's number says, and what its place is then. */
+/* A reply's number. trunk_refusal_text says what each means, and what its place is then. */
 enum trunk_number {
     TRUNK_DONE = 0,
-    TRUNK_SHORT_MAP = 1,      /* under 16 bytes: its length */
-    TRUNK_STRANGE_MAP = 2,    /* the format is not 1: 0 */
-    TRUNK_OVERSIZE = 3,       /* no junctions, or too many junctions, roads or name bytes: 4, 8 or 12, the first */
-    TRUNK_MISFIT = 4,         /* the map's length differs from what its counts need: the length needed */
-    TRUNK_BAD_JUNCTION = 5,   /* first road, flag or place of the name: the lowest such junction */
-    TRUNK_BAD_ROAD = 6,       /* any field: the lowest such road */
-    TRUNK_BROKEN_CHAIN = 7,   /* a road off its chain or on another's: the lowest such road */
-    TRUNK_BAD_LETTERING = 8,  /* a name byte outside 0x20 to 0x7E: its offset in the map, the lowest */
-    TRUNK_BAD_ORDER = 9,      /* the order is not 60 bytes: its length */
-    TRUNK_BAD_RULES = 10,     /* words 6 to 13 of the order, or the rules: the first such word, 6 to 13 */
-    TRUNK_BAD_TRIP = 11,      /* words 0 to 5 and 14 of the order, or the figures: the first such word */
-    TRUNK_FULL = 12,          /* more labels are needed than fit: the labels that fit */
-    TRUNK_NO_ROAD = 13,       /* no legal journey: how many labels there are */
-    TRUNK_SHORT_SHEET = 14,   /* the sheet to write is too short: the bytes needed */
-    TRUNK_TORN_SHEET = 15,    /* the sheet to read is not one: its length */
-    TRUNK_FOREIGN_MOVE = 16,  /* a move that the rules do not offer: which move, from 1 */
-    TRUNK_OVERRUN = 17,       /* a move that breaks a limit: which move, from 1 */
-    TRUNK_FALSE_FIGURE = 18,  /* a clock that is not true: which move; the header: one more than the moves */
-    TRUNK_STRAY = 19,         /* the moves do not end at the target: the junction reached */
-    TRUNK_UNKNOWN_NAME = 20,  /* no such junction: the junction asked */
-    TRUNK_TORN_TRACE = 21,    /* the trace's length is not a multiple of 8: its length */
-    TRUNK_ODD_RECORD = 22,    /* a record's activity or seconds out of range: which record, from 1 */
-    TRUNK_PAST_LIMIT = 23,    /* driving that takes a figure over its limit: which record, from 1 */
-    TRUNK_UNKNOWN_ROAD = 24   /* no such road: the road asked */
+    TRUNK_SHORT_MAP = 1,
+    TRUNK_STRANGE_MAP = 2,
+    TRUNK_OVERSIZE = 3,
+    TRUNK_MISFIT = 4,
+    TRUNK_BAD_JUNCTION = 5,
+    TRUNK_BAD_ROAD = 6,
+    TRUNK_BROKEN_CHAIN = 7,
+    TRUNK_BAD_LETTERING = 8,
+    TRUNK_BAD_ORDER = 9,
+    TRUNK_BAD_RULES = 10,
+    TRUNK_BAD_TRIP = 11,
+    TRUNK_FULL = 12,
+    TRUNK_NO_ROAD = 13,
+    TRUNK_SHORT_SHEET = 14,
+    TRUNK_TORN_SHEET = 15,
+    TRUNK_FOREIGN_MOVE = 16,
+    TRUNK_OVERRUN = 17,
+    TRUNK_FALSE_FIGURE = 18,
+    TRUNK_STRAY = 19,
+    TRUNK_UNKNOWN_NAME = 20,
+    TRUNK_TORN_TRACE = 21,
+    TRUNK_ODD_RECORD = 22,
+    TRUNK_PAST_LIMIT = 23,
+    TRUNK_UNKNOWN_ROAD = 24
 };
+
+/* A sentence for a reply's number: why the call refuses, and what the place is. */
+static inline const char *trunk_refusal_text(uint64_t number) {
+    static const char *const texts[] = {
+        /*  0 */ "done",
+        /*  1 */ "the map is shorter than 16 bytes; the place is its length",
+        /*  2 */ "the map's format is not 1; the place is 0",
+        /*  3 */ "a count of junctions, roads or name bytes is out of range; the place is its offset in the map, 4, 8 or 12",
+        /*  4 */ "the map's length is not what its counts need; the place is the length needed",
+        /*  5 */ "a junction's first road, car park or name is out of range; the place is the lowest such junction",
+        /*  6 */ "a road's from, to, metres, speed or next road is out of range; the place is the lowest such road",
+        /*  7 */ "a road is not on the chain of its from-junction, or is on another's; the place is the lowest such road",
+        /*  8 */ "a byte of the names is outside 0x20 to 0x7E; the place is the lowest such offset in the map",
+        /*  9 */ "the order is not 60 bytes long; the place is its length",
+        /* 10 */ "a limit or a pause of the rules is out of range; the place is the first such word of an order, 6 to 13",
+        /* 11 */ "the trip or a starting figure is out of range; the place is the first such word of an order, 0 to 5 or 14",
+        /* 12 */ "more labels are needed than fit; the place is how many fit",
+        /* 13 */ "no legal journey exists; the place is the number of labels",
+        /* 14 */ "the sheet to write is too short; the place is the bytes needed",
+        /* 15 */ "the length of the sheet to read does not fit its moves, at most 999,999; the place is that length",
+        /* 16 */ "a move is not offered where it is taken; the place is the move, from 1",
+        /* 17 */ "a move takes a figure over its limit or the clock past the latest arrival; the place is the move, from 1",
+        /* 18 */ "a clock or the header is not true; the place is the move, from 1, and for the header the moves + 1",
+        /* 19 */ "the moves do not end at the target; the place is the junction reached",
+        /* 20 */ "the map has no such junction; the place is the junction asked for",
+        /* 21 */ "the trace's length is not a multiple of 8; the place is its length",
+        /* 22 */ "a record's activity is not 0 to 2 or its seconds are not 1 to 1,000,000; the place is the record, from 1",
+        /* 23 */ "driving takes a figure over its limit; the place is the record, from 1",
+        /* 24 */ "the map has no such road; the place is the road asked for",
+    };
+    return number < sizeof texts / sizeof *texts ? texts[number] : "no such refusal";
+}
 
 /* Map check. Reads the map. Refuses 1 to 8; success is 0, 0, 0. */
 void trunk_check_map(const uint8_t *map, size_t map_length,
@@ -132,9 +175,9 @@ void trunk_check_order(const uint8_t *order, size_t order_length,
                        uint64_t *reply, size_t reply_count);
 
 /* Planning. Reads the map and the order; writes the plan to the sheet, and uses `words` as label space,
- * TRUNK_LABEL_WORDS a label, at most 1,000,000 labels. What the words hold before does not matter; afterwards they hold
- * nothing of use. Refuses 1 to 14; 1 to 11 leave the words as they were. Success is 0, the number of labels, the arrival:
- * the sheet then holds the plan in its first 24 + 12 * moves bytes, and the bytes after them stay. */
+ * TRUNK_LABEL_WORDS a label, at most TRUNK_MOST_LABELS of them. What the words hold before does not matter; afterwards
+ * they hold nothing of use. Refuses 1 to 14; 1 to 11 leave the words as they were. Success is 0, the number of labels, the
+ * arrival: the sheet then holds the plan in its first 24 + 12 * moves bytes, and the bytes after them stay. */
 void trunk_plan(const uint8_t *map, size_t map_length,
                 const uint8_t *order, size_t order_length,
                 uint32_t *words, size_t word_count,
