@@ -3,7 +3,7 @@
 use std::error::Error;
 use std::fs;
 
-use trunk::{Planned, Refusal, Refused, LABEL_WORDS};
+use trunk::{LABEL_WORDS, Planned, Refusal, Refused};
 
 /// The most labels that planning uses.
 const MOST_LABELS: usize = 1_000_000;

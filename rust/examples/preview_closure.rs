@@ -3,7 +3,7 @@
 mod listing;
 
 use listing::{bytes_of, print_moves};
-use trunk::{Refusal, Refused, LABEL_WORDS};
+use trunk::{LABEL_WORDS, Refusal, Refused};
 
 const ROADS: u32 = 4;
 const CLOSED: u32 = 2;

@@ -5,7 +5,7 @@ mod map_t;
 
 use listing::{bytes_of, print_moves};
 use map_t::map_t;
-use trunk::{Figures, Refused, Rules, DRIVING, LABEL_WORDS, OTHER_WORK, PAUSE};
+use trunk::{DRIVING, Figures, LABEL_WORDS, OTHER_WORK, PAUSE, Refused, Rules};
 
 const RULES: Rules = Rules::european();
 
