@@ -1,15 +1,17 @@
 //! Safe Rust over the trunk lorry planner, a library that is proved in Rattle: from a road map with car parks, a
 //! driver's hours and a trip to the legal route, with breaks and rests, that arrives first.
 //!
-//! Maps, orders and sheets are bytes in the formats of documents 01 and 02 (P7), and traces in that of document 02 (P3);
-//! `include/trunk.h` lists the refusals and what each call reads and writes. Every call ends, allocates nothing, and
-//! answers bad input by a refusal that changes no byte.
+//! Maps, orders, sheets and traces are bytes; `docs/FORMATS.md` describes every word of them, each refusal, and the words
+//! used here. Every call ends, allocates nothing, and answers bad input by a refusal that changes no byte.
 //!
 //! A road takes 18 × metres / (5 × km per hour) seconds, to the nearest second, an exact half to the even one, and never
 //! below 1.
 //!
 //! [`plan`] and [`preview`] need [`PLAN_STACK_BYTES`] of stack and every other call [`STACK_BYTES`], whatever the map.
 //! Threads of the standard library have 2 MiB unless they are given less.
+//!
+//! The package links `libtrunk.a`, which `rt staticlib trunk` writes to `target/staticlib` of the repository; the variable
+//! `TRUNK_LIB_DIR` names another folder that has it.
 #![warn(missing_docs)]
 
 mod order;
@@ -19,6 +21,9 @@ mod refusal;
 pub use order::{Figures, Rules};
 pub use refusal::{Refusal, Refused};
 
+/// The version of the calls, formats and numbers that this package describes, as in `include/trunk.h`. It rises by one with
+/// each change that a caller must follow. [`version`] is that of the library.
+pub const VERSION: u32 = 1;
 /// The most junctions of a map.
 pub const MOST_JUNCTIONS: usize = 12_288;
 /// The most roads of a map.
@@ -27,6 +32,8 @@ pub const MOST_ROADS: usize = 40_960;
 pub const MOST_NAME_BYTES: usize = 1_048_576;
 /// The length of the largest map.
 pub const MOST_MAP_BYTES: usize = 16 + 16 * MOST_JUNCTIONS + 20 * MOST_ROADS + MOST_NAME_BYTES;
+/// The most labels that [`plan`] and [`preview`] use.
+pub const MOST_LABELS: usize = 1_000_000;
 /// The length of an order: fifteen words, source, target, departure, latest arrival, spell, shift, the eight of [`Rules`]
 /// and week.
 pub const ORDER_BYTES: usize = 60;
@@ -67,7 +74,7 @@ pub const PAUSE: u32 = 2;
 /// A plan was written to the sheet.
 #[derive(Clone, Copy, Debug, PartialEq, Eq, Hash)]
 pub struct Planned {
-    /// How many labels the search counted, N in document 01.
+    /// How many labels the search counted, N on the sheet.
     pub labels: u64,
     /// When the plan arrives, in seconds.
     pub arrival: u64,
@@ -101,7 +108,7 @@ impl Reply {
         match self.number {
             0 => Ok(self),
             number => Err(Refused {
-                refusal: Refusal::ALL[number as usize - 1],
+                refusal: refusal_of(number),
                 place: self.place,
             }),
         }
@@ -113,6 +120,16 @@ impl Reply {
             arrival: self.arrival,
         }
     }
+}
+
+/// The refusal of a reply's number. Only a library of another version tells a number that this package does not know.
+fn refusal_of(number: u64) -> Refusal {
+    Refusal::from_number(number).unwrap_or_else(|| {
+        panic!(
+            "refusal {number} of the library, version {}, is not known to the package, version {VERSION}",
+            version()
+        )
+    })
 }
 
 /// Lends three numbers to a call and reads the reply from them.
@@ -131,7 +148,26 @@ fn replied(call: impl FnOnce(*mut u64, usize)) -> Result<Reply, Refused> {
 // In each call below, the pointers and lengths are those of slices, which Rust keeps valid, aligned and, where they are
 // `&mut`, apart from all others. That is all the library asks (`include/trunk.h`).
 
+/// The version of the library that is linked. A program may compare it with [`VERSION`] at its start.
+///
+/// ```
+/// assert_eq!(trunk::version(), trunk::VERSION);
+/// ```
+pub fn version() -> u32 {
+    raw::trunk_version()
+}
+
 /// Map check: refusals 1 to 8.
+///
+/// ```
+/// use trunk::{Refusal, Refused};
+///
+/// let map = std::fs::read("../crates/plan/data/map")?; // map T: Hub 1, Lay 2, a car park, End 3
+/// assert_eq!(trunk::check_map(&map), Ok(()));
+/// let (refusal, place) = (Refusal::Misfit, 133);
+/// assert_eq!(trunk::check_map(&map[..132]), Err(Refused { refusal, place }));
+/// # Ok::<(), std::io::Error>(())
+/// ```
 pub fn check_map(map: &[u8]) -> Result<(), Refused> {
     replied(|reply, count| unsafe { raw::trunk_check_map(map.as_ptr(), map.len(), reply, count) })?;
     Ok(())
@@ -139,7 +175,7 @@ pub fn check_map(map: &[u8]) -> Result<(), Refused> {
 
 /// Order check: an order alone, as it is typed. Refusals 9 to 11.
 ///
-/// `junctions` is J of the map that the order is meant for.
+/// `junctions` is how many the map has that the order is meant for, word 1 of that map.
 pub fn check_order(order: &[u8], junctions: u32) -> Result<(), Refused> {
     replied(|reply, count| unsafe {
         raw::trunk_check_order(order.as_ptr(), order.len(), junctions, reply, count)
@@ -149,9 +185,8 @@ pub fn check_order(order: &[u8], junctions: u32) -> Result<(), Refused> {
 
 /// Planning: writes the first-arriving legal plan to the sheet. Refusals 1 to 14.
 ///
-/// `words` is label space, [`LABEL_WORDS`] a label, of which at most 1,000,000 labels are used; what it holds does not
-/// matter before and is of no use afterwards. A plan of M moves takes 24 + 12M bytes of the sheet; the bytes after them
-/// stay.
+/// `words` is label space, [`LABEL_WORDS`] a label, of which at most [`MOST_LABELS`] are used; what it holds does not matter
+/// before and is of no use afterwards. A plan of M moves takes 24 + 12M bytes of the sheet; the bytes after them stay.
 pub fn plan(
     map: &[u8],
     order: &[u8],
@@ -202,6 +237,8 @@ pub fn retime(map: &[u8], order: &[u8], sheet: &[u8], out: &mut [u8]) -> Result<
 
 /// Audit: whether a sheet's moves are legal and its figures true. Refusals 1 to 11, 15, 16 to 18 move by move, 19, 18 for
 /// the header.
+///
+/// The sheet is exactly 24 + 12M bytes for its M moves. Its label count is not judged.
 pub fn audit(map: &[u8], order: &[u8], sheet: &[u8]) -> Result<Timed, Refused> {
     let reply = replied(|reply, count| unsafe {
         raw::trunk_audit(
@@ -222,7 +259,15 @@ pub fn audit(map: &[u8], order: &[u8], sheet: &[u8]) -> Result<Timed, Refused> {
 }
 
 /// The part of the map that spells a junction's name. Refusals 1 to 8, 20.
-pub fn name(map: &[u8], junction: u32) -> Result<&[u8], Refused> {
+///
+/// ```
+/// let map = std::fs::read("../crates/plan/data/map")?; // map T: Hub 1, Lay 2, a car park, End 3
+/// assert_eq!(trunk::name(&map, 2), Ok("Lay"));
+/// let unknown = trunk::name(&map, 4).unwrap_err();
+/// assert_eq!((unknown.refusal, unknown.place), (trunk::Refusal::UnknownName, 4));
+/// # Ok::<(), std::io::Error>(())
+/// ```
+pub fn name(map: &[u8], junction: u32) -> Result<&str, Refused> {
     let mut part = [0; 2];
     replied(|reply, count| unsafe {
         raw::trunk_name(
@@ -236,11 +281,22 @@ pub fn name(map: &[u8], junction: u32) -> Result<&[u8], Refused> {
         )
     })?;
     let [from, length] = part.map(|number: u64| number as usize);
-    Ok(&map[from..from + length])
+    let spelt = str::from_utf8(&map[from..from + length]);
+    Ok(spelt.expect("the names of an accepted map are bytes 0x20 to 0x7E"))
 }
 
 /// Chain making: sets each junction's first road and each road's next road, whatever they were, and nothing else.
 /// Refusals 1 to 6, not judging those fields, and 8.
+///
+/// ```
+/// let map = std::fs::read("../crates/plan/data/map")?; // map T: Hub 1, Lay 2, a car park, End 3
+/// let mut unchained = map.clone();
+/// unchained[16..20].fill(0); // Hub's first road
+/// assert_eq!(trunk::check_map(&unchained).unwrap_err().refusal, trunk::Refusal::BrokenChain);
+/// trunk::make_chains(&mut unchained)?;
+/// assert_eq!(unchained, map);
+/// # Ok::<(), Box<dyn std::error::Error>>(())
+/// ```
 pub fn make_chains(map: &mut [u8]) -> Result<(), Refused> {
     replied(|reply, count| unsafe {
         raw::trunk_make_chains(map.as_mut_ptr(), map.len(), reply, count)

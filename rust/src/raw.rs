@@ -1,6 +1,7 @@
 //! The library's functions, as `include/trunk.h` declares them. A slice is a pointer and a length.
 
 unsafe extern "C" {
+    pub safe fn trunk_version() -> u32;
     pub fn trunk_check_map(map: *const u8, map_length: usize, reply: *mut u64, reply_count: usize);
     pub fn trunk_check_order(
         order: *const u8,

@@ -1,115 +1,116 @@
-//! Refusals: their names, numbers and places.
+//! Refusals: their names, numbers and sentences.
+use std::error::Error;
 use std::fmt;
 
-/// Why a call refuses: the refusals of documents 01 and 02, in the order of their numbers.
-#[derive(Clone, Copy, Debug, PartialEq, Eq, Hash)]
-#[repr(u8)]
-pub enum Refusal {
-    /// The map is under 16 bytes. Place: its length.
-    ShortMap = 1,
-    /// The map's format is not 1. Place: 0.
-    StrangeMap,
-    /// No junctions, or more than [`MOST_JUNCTIONS`](crate::MOST_JUNCTIONS), [`MOST_ROADS`](crate::MOST_ROADS) or [`MOST_NAME_BYTES`](crate::MOST_NAME_BYTES) allow. Place: 4, 8 or 12, the
-    /// first.
-    Oversize,
-    /// The map's length differs from what its counts need. Place: the length needed.
-    Misfit,
-    /// A junction's first road, flag or place of its name. Place: the lowest such junction.
-    BadJunction,
-    /// Any field of a road. Place: the lowest such road.
-    BadRoad,
-    /// A road off its chain or on another's. Place: the lowest such road.
-    BrokenChain,
-    /// A name byte outside 0x20 to 0x7E. Place: its offset in the map, the lowest.
-    BadLettering,
-    /// The order is not [`ORDER_BYTES`](crate::ORDER_BYTES). Place: its length.
-    BadOrder,
-    /// Words 6 to 13 of the order, which are also the [`Rules`](crate::Rules) of a replay. Place: the first such word.
-    BadRules,
-    /// Words 0 to 5 and 14 of the order, of which 4, 5 and 14 are also the [`Figures`](crate::Figures) of a replay. Place: the first such
-    /// word.
-    BadTrip,
-    /// More labels are needed than fit. Place: the labels that fit.
-    Full,
-    /// There is no legal journey. Place: how many labels there are.
-    NoRoad,
-    /// The sheet to write is too short. Place: the bytes needed.
-    ShortSheet,
-    /// The sheet to read is not one. Place: its length.
-    TornSheet,
-    /// A move that the rules do not offer. Place: which move, from 1.
-    ForeignMove,
-    /// A move that breaks a limit. Place: which move, from 1.
-    Overrun,
-    /// A clock that is not true, or the header. Place: which move; for the header one more than the moves.
-    FalseFigure,
-    /// The moves do not end at the target. Place: the junction reached.
-    Stray,
-    /// There is no such junction. Place: the junction asked.
-    UnknownName,
-    /// The trace's length is not a multiple of [`TRACE_RECORD_BYTES`](crate::TRACE_RECORD_BYTES). Place: its length.
-    TornTrace,
-    /// A record's activity or seconds are out of range. Place: which record, from 1.
-    OddRecord,
-    /// Driving that takes a figure over its limit. Place: which record, from 1.
-    PastLimit,
-    /// There is no such road. Place: the road asked.
-    UnknownRoad,
+/// The numbers and sentences are those of `include/trunk.h`; a test holds the two together.
+macro_rules! refusals {
+    ($($name:ident = $number:literal, $sentence:literal;)*) => {
+        /// Why a call refuses, in the order of the refusals' numbers. It is displayed as its sentence, which says what the
+        /// place is too.
+        ///
+        /// Later versions refuse for more reasons, so a `match` needs an arm for the others.
+        ///
+        /// ```
+        /// use trunk::Refusal;
+        ///
+        /// let refusal = Refusal::from_number(13).unwrap();
+        /// assert_eq!(refusal, Refusal::NoRoad);
+        /// assert_eq!(refusal.number(), 13);
+        /// let sentence = "no legal journey exists; the place is the number of labels";
+        /// assert_eq!(refusal.to_string(), sentence);
+        /// ```
+        #[derive(Clone, Copy, Debug, PartialEq, Eq, Hash)]
+        #[non_exhaustive]
+        #[repr(u8)]
+        pub enum Refusal {
+            $(#[doc = $sentence] $name = $number,)*
+        }
+
+        impl Refusal {
+            /// In the order of their numbers, which count from 1.
+            pub(crate) const ALL: &[Refusal] = &[$(Refusal::$name),*];
+
+            fn sentence(self) -> &'static str {
+                match self {
+                    $(Refusal::$name => $sentence,)*
+                }
+            }
+        }
+    };
+}
+
+refusals! {
+    ShortMap = 1, "the map is shorter than 16 bytes; the place is its length";
+    StrangeMap = 2, "the map's format is not 1; the place is 0";
+    Oversize = 3, "a count of junctions, roads or name bytes is out of range; the place is its offset in the map, 4, 8 or 12";
+    Misfit = 4, "the map's length is not what its counts need; the place is the length needed";
+    BadJunction = 5, "a junction's first road, car park or name is out of range; the place is the lowest such junction";
+    BadRoad = 6, "a road's from, to, metres, speed or next road is out of range; the place is the lowest such road";
+    BrokenChain = 7, "a road is not on the chain of its from-junction, or is on another's; the place is the lowest such road";
+    BadLettering = 8, "a byte of the names is outside 0x20 to 0x7E; the place is the lowest such offset in the map";
+    BadOrder = 9, "the order is not 60 bytes long; the place is its length";
+    BadRules = 10, "a limit or a pause of the rules is out of range; the place is the first such word of an order, 6 to 13";
+    BadTrip = 11, "the trip or a starting figure is out of range; the place is the first such word of an order, 0 to 5 or 14";
+    Full = 12, "more labels are needed than fit; the place is how many fit";
+    NoRoad = 13, "no legal journey exists; the place is the number of labels";
+    ShortSheet = 14, "the sheet to write is too short; the place is the bytes needed";
+    TornSheet = 15, "the length of the sheet to read does not fit its moves, at most 999,999; the place is that length";
+    ForeignMove = 16, "a move is not offered where it is taken; the place is the move, from 1";
+    Overrun = 17, "a move takes a figure over its limit or the clock past the latest arrival; the place is the move, from 1";
+    FalseFigure = 18, "a clock or the header is not true; the place is the move, from 1, and for the header the moves + 1";
+    Stray = 19, "the moves do not end at the target; the place is the junction reached";
+    UnknownName = 20, "the map has no such junction; the place is the junction asked for";
+    TornTrace = 21, "the trace's length is not a multiple of 8; the place is its length";
+    OddRecord = 22, "a record's activity is not 0 to 2 or its seconds are not 1 to 1,000,000; the place is the record, from 1";
+    PastLimit = 23, "driving takes a figure over its limit; the place is the record, from 1";
+    UnknownRoad = 24, "the map has no such road; the place is the road asked for";
 }
 
 impl Refusal {
-    pub(crate) const ALL: [Refusal; 24] = [
-        Refusal::ShortMap,
-        Refusal::StrangeMap,
-        Refusal::Oversize,
-        Refusal::Misfit,
-        Refusal::BadJunction,
-        Refusal::BadRoad,
-        Refusal::BrokenChain,
-        Refusal::BadLettering,
-        Refusal::BadOrder,
-        Refusal::BadRules,
-        Refusal::BadTrip,
-        Refusal::Full,
-        Refusal::NoRoad,
-        Refusal::ShortSheet,
-        Refusal::TornSheet,
-        Refusal::ForeignMove,
-        Refusal::Overrun,
-        Refusal::FalseFigure,
-        Refusal::Stray,
-        Refusal::UnknownName,
-        Refusal::TornTrace,
-        Refusal::OddRecord,
-        Refusal::PastLimit,
-        Refusal::UnknownRoad,
-    ];
-
-    /// The refusal's number in documents 01 and 02.
-    pub fn number(self) -> u64 {
+    /// The refusal's number, as a reply and `include/trunk.h` have it.
+    pub const fn number(self) -> u64 {
         self as u64
+    }
+
+    /// The refusal of this number; none for 0, which is a success, and for a number that this version does not know.
+    pub fn from_number(number: u64) -> Option<Refusal> {
+        let mut refusals = Refusal::ALL.iter().copied();
+        refusals.find(|refusal| refusal.number() == number)
     }
 }
 
+impl fmt::Display for Refusal {
+    fn fmt(&self, f: &mut fmt::Formatter<'_>) -> fmt::Result {
+        f.write_str(self.sentence())
+    }
+}
+
+impl Error for Refusal {}
+
 /// A refusal and its place.
+///
+/// ```
+/// use trunk::{Refusal, Refused};
+///
+/// let refused = trunk::check_map(&[]).unwrap_err();
+/// let (refusal, place) = (Refusal::ShortMap, 0);
+/// assert_eq!(refused, Refused { refusal, place });
+/// let line = "refusal 1, place 0: the map is shorter than 16 bytes; the place is its length";
+/// assert_eq!(refused.to_string(), line);
+/// ```
 #[derive(Clone, Copy, Debug, PartialEq, Eq, Hash)]
 pub struct Refused {
     /// Why.
     pub refusal: Refusal,
-    /// Where, or how many: [`Refusal`] says what the place is.
+    /// Where, or how many: the refusal's sentence says what the place is.
     pub place: u64,
 }
 
 impl fmt::Display for Refused {
     fn fmt(&self, f: &mut fmt::Formatter<'_>) -> fmt::Result {
-        write!(
-            f,
-            "refused {} {} ({:?})",
-            self.refusal.number(),
-            self.place,
-            self.refusal
-        )
+        let (number, place) = (self.refusal.number(), self.place);
+        write!(f, "refusal {number}, place {place}: {}", self.refusal)
     }
 }
 
-impl std::error::Error for Refused {}
+impl Error for Refused {}

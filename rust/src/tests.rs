@@ -1,6 +1,7 @@
 //! Document 01's trial trips, a refusal of each call, the largest map, replayed traces, closures and weeks, through the
-//! library.
+//! library; beside it the header's figures and sentences.
 mod closures;
+mod header;
 mod weeks;
 
 use super::*;
@@ -233,8 +234,8 @@ fn retimes_and_audits_a_plan() {
 #[test]
 fn names_are_parts_of_the_map() {
     let map = map_t();
-    assert_eq!(name(&map, 1), Ok(&b"Hub"[..]));
-    assert_eq!(name(&map, 2), Ok(&b"Lay"[..]));
+    assert_eq!(name(&map, 1), Ok("Hub"));
+    assert_eq!(name(&map, 2), Ok("Lay"));
     assert_eq!(
         name(&map, 3).unwrap().as_ptr(),
         map[map.len() - 3..].as_ptr()
@@ -329,7 +330,7 @@ fn the_largest_map_passes_and_plans() {
     let before = map.clone();
     assert_eq!(make_chains(&mut map), Ok(()));
     assert_eq!(map, before);
-    assert_eq!(name(&map, 12_288), Ok(&b"n"[..]));
+    assert_eq!(name(&map, 12_288), Ok("n"));
     let (order, mut sheet) = (ring_order(), vec![0; 24 + 12 * 12_287]);
     assert_eq!(
         plan(&map, &order, &mut vec![7; LABEL_WORDS * 12_288], &mut sheet),
@@ -384,87 +385,6 @@ fn one_junction_or_road_too_many_is_oversize() {
         assert_eq!(make_chains(&mut map), refused(Refusal::Oversize, place));
         assert_eq!(map, before);
     }
-}
-
-#[test]
-fn the_header_has_the_same_figures() {
-    let header = include_str!("../../include/trunk.h");
-    for (name, figure) in [
-        ("MOST_JUNCTIONS", MOST_JUNCTIONS),
-        ("MOST_ROADS", MOST_ROADS),
-        ("MOST_NAME_BYTES", MOST_NAME_BYTES),
-        ("ORDER_BYTES", ORDER_BYTES),
-        ("LABEL_WORDS", LABEL_WORDS),
-        ("SHEET_HEADER_BYTES", SHEET_HEADER_BYTES),
-        ("SHEET_RECORD_BYTES", SHEET_RECORD_BYTES),
-        ("DRIVE", DRIVE as usize),
-        ("BREAK", BREAK as usize),
-        ("REST", REST as usize),
-        ("FIRST_PART", FIRST_PART as usize),
-        ("SECOND_PART", SECOND_PART as usize),
-        ("WEEKLY_REST", WEEKLY_REST as usize),
-        ("PLAN_STACK_BYTES", PLAN_STACK_BYTES),
-        ("STACK_BYTES", STACK_BYTES),
-        ("TRACE_RECORD_BYTES", TRACE_RECORD_BYTES),
-        ("MOST_TRACE_SECONDS", MOST_TRACE_SECONDS as usize),
-        ("OTHER_WORK", OTHER_WORK as usize),
-        ("DRIVING", DRIVING as usize),
-        ("PAUSE", PAUSE as usize),
-    ] {
-        assert!(
-            header.contains(&format!(" TRUNK_{name} = {figure},")),
-            "{name}"
-        );
-    }
-}
-
-/// In the order of an order's words.
-#[test]
-fn the_header_has_the_european_rules() {
-    let header = include_str!("../../include/trunk.h");
-    let names = [
-        "SPELL_LIMIT",
-        "BREAK_TIME",
-        "SHIFT_LIMIT",
-        "REST_TIME",
-        "FIRST_PART",
-        "SECOND_PART",
-        "WEEK_LIMIT",
-        "WEEKLY_REST",
-    ];
-    let named = |(name, seconds)| format!("    TRUNK_EUROPEAN_{name} = {seconds},\n");
-    let rules = names.into_iter().zip(Rules::european().words());
-    assert!(header.contains(&rules.map(named).collect::<String>()));
-}
-
-/// `TRUNK_SHORT_MAP` for `ShortMap`.
-fn name_in_c(refusal: Refusal) -> String {
-    let mut name = "TRUNK".to_string();
-    for letter in format!("{refusal:?}").chars() {
-        if letter.is_uppercase() {
-            name.push('_');
-        }
-        name.extend(letter.to_uppercase());
-    }
-    name
-}
-
-#[test]
-fn numbers_are_the_documents() {
-    for (i, refusal) in Refusal::ALL.into_iter().enumerate() {
-        assert_eq!(refusal.number(), i as u64 + 1);
-    }
-    let header = include_str!("../../include/trunk.h");
-    for refusal in Refusal::ALL {
-        let name = name_in_c(refusal);
-        let number = refusal.number();
-        assert!(header.contains(&format!(" {name} = {number}")), "{name}");
-    }
-    let full = Refused {
-        refusal: Refusal::Full,
-        place: 3,
-    };
-    assert_eq!(full.to_string(), "refused 12 3 (Full)");
 }
 
 /// Who lends fewer than three numbers for the reply gets nothing changed.

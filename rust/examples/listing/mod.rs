@@ -27,7 +27,7 @@ fn print_move(map: &[u8], record: &[u8]) -> Result<(), trunk::Refused> {
         trunk::DRIVE => end_of(map, number),
         _ => number,
     };
-    let name = String::from_utf8_lossy(trunk::name(map, reached)?);
+    let name = trunk::name(map, reached)?;
     println!("{word} {number} {name} {clock}");
     Ok(())
 }
