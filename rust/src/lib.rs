@@ -2,7 +2,34 @@
 //! driver's hours and a trip to the legal route, with breaks and rests, that arrives first.
 //!
 //! Maps, orders, sheets and traces are bytes; `docs/FORMATS.md` describes every word of them, each refusal, and the words
-//! used here. Every call ends, allocates nothing, and answers bad input by a refusal that changes no byte.
+//! used here. [`Order`] and [`Sheet`] read and write such bytes, and [`trace_bytes`] writes a trace's. Every operation ends,
+//! allocates nothing, and answers bad input by a refusal that changes no byte.
+//!
+//! A map of two junctions and one road, written word by word, and a trip from one to the other:
+//!
+//! ```
+//! use trunk::{LABEL_WORDS, Move, MoveKind, Order, Sheet};
+//!
+//! let words = [
+//!     1, 2, 1, 2, // header: format, junctions, roads, name bytes
+//!     1, 0, 0, 1, // A: first road, no car park, start and length of its name
+//!     0, 0, 1, 1, // B: no road leaves it
+//!     1, 2, 1_000, 80, 0, // road 1: from, to, metres, km per hour, next road from there
+//! ];
+//! let mut map: Vec<u8> = words.into_iter().flat_map(u32::to_le_bytes).collect();
+//! map.extend(b"AB");
+//! trunk::check_map(&map)?;
+//!
+//! let order = Order::european(1, 2, 0, 100).to_bytes();
+//! let mut labels = [0; 2 * LABEL_WORDS];
+//! let mut lent = [0; 100];
+//! let planned = trunk::plan(&map, &order, &mut labels, &mut lent)?;
+//! assert_eq!((planned.labels, planned.arrival), (2, 45));
+//! let (kind, number, clock) = (MoveKind::Drive, 1, 45);
+//! assert_eq!(Sheet::from_bytes(&lent)?.moves, [Move { kind, number, clock }]);
+//! assert_eq!(trunk::name(&map, 2)?, "B");
+//! # Ok::<(), trunk::Refused>(())
+//! ```
 //!
 //! A road takes 18 × metres / (5 × km per hour) seconds, to the nearest second, an exact half to the even one, and never
 //! below 1.
@@ -17,9 +44,14 @@
 mod order;
 mod raw;
 mod refusal;
+mod sheet;
+mod trace;
+mod words;
 
-pub use order::{Figures, Rules};
+pub use order::{Figures, Order, Rules};
 pub use refusal::{Refusal, Refused};
+pub use sheet::{Move, MoveKind, Sheet};
+pub use trace::{Activity, TraceRecord, trace_bytes};
 
 /// The version of the calls, formats and numbers that this package describes, as in `include/trunk.h`. It rises by one with
 /// each change that a caller must follow. [`version`] is that of the library.
@@ -176,6 +208,15 @@ pub fn check_map(map: &[u8]) -> Result<(), Refused> {
 /// Order check: an order alone, as it is typed. Refusals 9 to 11.
 ///
 /// `junctions` is how many the map has that the order is meant for, word 1 of that map.
+///
+/// ```
+/// use trunk::{Order, Refusal, Refused};
+///
+/// let order = Order::european(1, 3, 0, 100_000).to_bytes();
+/// assert_eq!(trunk::check_order(&order, 3), Ok(()));
+/// let (refusal, place) = (Refusal::BadTrip, 1); // word 1: there is no junction 3
+/// assert_eq!(trunk::check_order(&order, 2), Err(Refused { refusal, place }));
+/// ```
 pub fn check_order(order: &[u8], junctions: u32) -> Result<(), Refused> {
     replied(|reply, count| unsafe {
         raw::trunk_check_order(order.as_ptr(), order.len(), junctions, reply, count)
@@ -187,6 +228,20 @@ pub fn check_order(order: &[u8], junctions: u32) -> Result<(), Refused> {
 ///
 /// `words` is label space, [`LABEL_WORDS`] a label, of which at most [`MOST_LABELS`] are used; what it holds does not matter
 /// before and is of no use afterwards. A plan of M moves takes 24 + 12M bytes of the sheet; the bytes after them stay.
+///
+/// ```
+/// let map = std::fs::read("../crates/plan/data/map")?; // map T: Hub 1, Lay 2, a car park, End 3
+/// let order = trunk::Order::european(1, 3, 0, 100_000).to_bytes();
+/// let mut words = [0; 10 * trunk::LABEL_WORDS];
+/// let mut sheet = [0; 1000];
+/// let planned = trunk::plan(&map, &order, &mut words, &mut sheet)?;
+/// assert_eq!((planned.labels, planned.arrival), (4, 20_700));
+///
+/// let full = trunk::plan(&map, &order, &mut words[..30], &mut sheet).unwrap_err();
+/// let line = "refusal 12, place 3: more labels are needed than fit; the place is how many fit";
+/// assert_eq!(full.to_string(), line);
+/// # Ok::<(), Box<dyn std::error::Error>>(())
+/// ```
 pub fn plan(
     map: &[u8],
     order: &[u8],
@@ -214,6 +269,21 @@ pub fn plan(
 /// by move, 19, 14.
 ///
 /// The sheet that is read is exactly 24 + 12M bytes for its M moves.
+///
+/// ```
+/// use trunk::{Move, MoveKind, Order, Sheet};
+///
+/// let map = std::fs::read("../crates/plan/data/map")?; // map T: Hub 1, Lay 2, a car park, End 3
+/// let order = Order::european(1, 3, 0, 100_000).to_bytes();
+/// let moves = [(MoveKind::Drive, 1), (MoveKind::Rest, 2), (MoveKind::Drive, 2)];
+/// let untimed = |(kind, number)| Move { kind, number, clock: 0 };
+/// let typed = Sheet { moves: moves.map(untimed).to_vec(), ..Sheet::default() }.to_bytes();
+/// let mut out = vec![0; typed.len()];
+/// let timed = trunk::retime(&map, &order, &typed, &mut out)?;
+/// assert_eq!((timed.moves, timed.arrival), (3, 57_600));
+/// assert_eq!(Sheet::from_bytes(&out)?.moves[1].clock, 50_400);
+/// # Ok::<(), Box<dyn std::error::Error>>(())
+/// ```
 pub fn retime(map: &[u8], order: &[u8], sheet: &[u8], out: &mut [u8]) -> Result<Timed, Refused> {
     let reply = replied(|reply, count| unsafe {
         raw::trunk_retime(
@@ -239,6 +309,22 @@ pub fn retime(map: &[u8], order: &[u8], sheet: &[u8], out: &mut [u8]) -> Result<
 /// the header.
 ///
 /// The sheet is exactly 24 + 12M bytes for its M moves. Its label count is not judged.
+///
+/// ```
+/// use trunk::{Order, Refusal, Refused};
+///
+/// let map = std::fs::read("../crates/plan/data/map")?; // map T: Hub 1, Lay 2, a car park, End 3
+/// let order = Order::european(1, 3, 0, 100_000).to_bytes();
+/// let mut sheet = [0; 60];
+/// trunk::plan(&map, &order, &mut [0; 10 * trunk::LABEL_WORDS], &mut sheet)?;
+/// let timed = trunk::audit(&map, &order, &sheet)?;
+/// assert_eq!((timed.moves, timed.arrival), (3, 20_700));
+///
+/// sheet[4] += 1; // the arrival in the header
+/// let (refusal, place) = (Refusal::FalseFigure, 4);
+/// assert_eq!(trunk::audit(&map, &order, &sheet), Err(Refused { refusal, place }));
+/// # Ok::<(), Box<dyn std::error::Error>>(())
+/// ```
 pub fn audit(map: &[u8], order: &[u8], sheet: &[u8]) -> Result<Timed, Refused> {
     let reply = replied(|reply, count| unsafe {
         raw::trunk_audit(
@@ -307,13 +393,29 @@ pub fn make_chains(map: &mut [u8]) -> Result<(), Refused> {
 /// Replaying: brings a driver's figures up to date from a tachograph's trace. Refusals 10, 11, 21, then 22 and 23 record
 /// by record; a refusal leaves the figures.
 ///
-/// A record is two little-endian words: [`OTHER_WORK`], [`DRIVING`] or [`PAUSE`], and its seconds, 1 to
-/// [`MOST_TRACE_SECONDS`]. Driving adds to spell, shift and week. Neighbouring pauses are one pause, judged whole, with the
+/// [`trace_bytes`] makes a trace of records. A record is two little-endian words: [`OTHER_WORK`], [`DRIVING`] or [`PAUSE`],
+/// and its seconds, 1 to [`MOST_TRACE_SECONDS`]. Driving adds to spell, shift and week. Neighbouring pauses are one pause, judged whole, with the
 /// mark from before it. At least as long as the break it clears spell and the mark, at least as long as the rest shift too,
 /// at least as long as the weekly rest week too. One shorter than the break counts where the rules have a split: with the
 /// mark and at least as long as the second part it clears mark and spell, otherwise it sets the mark if it is at least as
 /// long as the first part. Other work clears nothing and ends a pause, and so does the trace's end: the pauses of two traces
 /// are not joined.
+///
+/// ```
+/// use trunk::{Activity, Figures, Rules, TraceRecord};
+///
+/// let trace = trunk::trace_bytes(&[
+///     TraceRecord::new(Activity::Driving, 10_800),
+///     TraceRecord::new(Activity::Pause, 2_700),
+///     TraceRecord::new(Activity::Driving, 4_500),
+/// ]);
+/// let mut figures = Figures::default(); // from a weekly rest
+/// let replayed = trunk::replay(&trace, Rules::european(), &mut figures)?;
+/// assert_eq!(replayed.records, 3);
+/// let (spell, shift, week, marked) = (4_500, 15_300, 15_300, false);
+/// assert_eq!(figures, Figures { spell, shift, week, marked });
+/// # Ok::<(), trunk::Refused>(())
+/// ```
 pub fn replay(trace: &[u8], rules: Rules, figures: &mut Figures) -> Result<Replayed, Refused> {
     let words = rules.words();
     let mut lent = [
@@ -350,6 +452,15 @@ pub fn replay(trace: &[u8], rules: Rules, figures: &mut Figures) -> Result<Repla
 /// Refusals 1 to 8, 24.
 ///
 /// The map passes the map check as before. Nothing tells afterwards where the road led.
+///
+/// ```
+/// let mut map = std::fs::read("../crates/plan/data/map")?; // map T: road 2 leads from Lay 2 to End 3
+/// let order = trunk::Order::european(1, 3, 0, 100_000).to_bytes();
+/// trunk::strike(&mut map, 2)?;
+/// let none = trunk::plan(&map, &order, &mut [0; 10 * trunk::LABEL_WORDS], &mut []).unwrap_err();
+/// assert_eq!(none.refusal, trunk::Refusal::NoRoad);
+/// # Ok::<(), Box<dyn std::error::Error>>(())
+/// ```
 pub fn strike(map: &mut [u8], road: u32) -> Result<(), Refused> {
     replied(|reply, count| unsafe {
         raw::trunk_strike(map.as_mut_ptr(), map.len(), road, reply, count)
@@ -362,6 +473,17 @@ pub fn strike(map: &mut [u8], road: u32) -> Result<(), Refused> {
 /// trip without the road.
 ///
 /// `words` and `sheet` are those of [`plan`]; refusals 1 to 11 and 24 leave the words.
+///
+/// ```
+/// let map = std::fs::read("../crates/plan/data/map")?; // map T: road 3 leads from Hub 1 to End 3
+/// let order = trunk::Order::european(1, 3, 0, 100_000).to_bytes();
+/// let (mut words, mut sheet) = ([0; 10 * trunk::LABEL_WORDS], [0; 1000]);
+/// let closed = trunk::preview(&map, &order, 3, &mut words, &mut sheet)?;
+/// assert_eq!(closed.arrival, 20_700);
+/// let none = trunk::preview(&map, &order, 2, &mut words, &mut sheet).unwrap_err();
+/// assert_eq!(none.refusal, trunk::Refusal::NoRoad);
+/// # Ok::<(), Box<dyn std::error::Error>>(())
+/// ```
 pub fn preview(
     map: &[u8],
     order: &[u8],

@@ -1,6 +1,7 @@
 //! Document 01's trial trips, a refusal of each call, the largest map, replayed traces, closures and weeks, through the
-//! library; beside it the header's figures and sentences.
+//! library; beside it the header's figures and sentences, and the types for orders, sheets and traces.
 mod closures;
+mod formats;
 mod header;
 mod weeks;
 
