@@ -35,6 +35,7 @@ static const uint32_t day[2 * DAY_RECORDS] = {
 static uint8_t trace[TRUNK_TRACE_RECORD_BYTES * DAY_RECORDS];
 static uint32_t figures[TRUNK_FIGURE_WORDS];
 
+static void version(void) { reply[0] = trunk_version(); }
 static void check_map(void) { trunk_check_map(map, map_length, reply, 3); }
 static void check_order(void) { trunk_check_order(order, sizeof order, 3, reply, 3); }
 static void plan(void) {
@@ -61,6 +62,7 @@ static struct {
     void (*call)(void);
     size_t enough, bytes;
 } calls[] = {
+    {"trunk_version", version, TRUNK_STACK_BYTES, 0},
     {"trunk_make_chains", make_chains, TRUNK_STACK_BYTES, 0},
     {"trunk_check_map", check_map, TRUNK_STACK_BYTES, 0},
     {"trunk_check_order", check_order, TRUNK_STACK_BYTES, 0},
