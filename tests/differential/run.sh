@@ -4,6 +4,7 @@
 set -eu
 cd "$(dirname "$0")/../.."
 if [ "${1:-}" = --built ]; then shift; else rt staticlib trunk >&2; fi
-export CARGO_TARGET_DIR="$PWD/target/rust"
+# The library just built, whatever folder the environment names.
+export TRUNK_LIB_DIR="$PWD/target/staticlib" CARGO_TARGET_DIR="$PWD/target/rust"
 cargo build --quiet --release --offline --manifest-path tests/differential/Cargo.toml
 target/rust/release/differential "$@"
