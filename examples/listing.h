@@ -1,7 +1,8 @@
-/* What the examples share: words as bytes, and the lines of a plan. */
+/* What the examples share: words as bytes, a refusal in words, and the lines of a plan. */
 #ifndef LISTING_H
 #define LISTING_H
 
+#include <inttypes.h>
 #include <stdio.h>
 #include "trunk.h"
 
@@ -15,6 +16,15 @@ static void put_words(uint8_t *bytes, const uint32_t *words, size_t count) {
 
 static uint32_t word_at(const uint8_t *bytes, size_t at) {
     return bytes[at] | (uint32_t)bytes[at + 1] << 8 | (uint32_t)bytes[at + 2] << 16 | (uint32_t)bytes[at + 3] << 24;
+}
+
+/* Whether the call has refused, which is told on standard error. */
+static int refused(const uint64_t *reply) {
+    if (reply[0] == TRUNK_DONE) {
+        return 0;
+    }
+    fprintf(stderr, "refusal %" PRIu64 ", place %" PRIu64 ": %s\n", reply[0], reply[1], trunk_refusal_text(reply[0]));
+    return 1;
 }
 
 /* Where a road leads. */

@@ -1,4 +1,4 @@
-/* Map T of document 01 for the examples, and how they print a reply. */
+/* Map T, of three junctions and three roads, for the examples, and how they print a reply. */
 #ifndef MAP_T_H
 #define MAP_T_H
 
@@ -25,7 +25,7 @@ static void make_map(void) {
 }
 
 static void print_reply(const uint64_t *reply) {
-    printf("reply %llu %llu %llu\n", (unsigned long long)reply[0], (unsigned long long)reply[1], (unsigned long long)reply[2]);
+    printf("reply %" PRIu64 " %" PRIu64 " %" PRIu64 "\n", reply[0], reply[1], reply[2]);
 }
 
 #endif

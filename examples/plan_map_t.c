@@ -1,4 +1,4 @@
-/* Plans document 01's map T and prints the reply and the moves on the sheet. Run it by examples/run.sh. */
+/* Plans map T and prints the reply and the moves on the sheet. Run it by examples/run.sh. */
 #include "map_t.h"
 
 enum { ORDER_WORDS = TRUNK_ORDER_BYTES / 4 };
@@ -20,10 +20,10 @@ int main(void) {
     put_words(order, order_words, ORDER_WORDS);
 
     trunk_plan(map, sizeof map, order, sizeof order, words, sizeof words / sizeof *words, sheet, sizeof sheet, reply, 3);
-    print_reply(reply);
-    if (reply[0] != TRUNK_DONE) {
+    if (refused(reply)) {
         return 1;
     }
+    print_reply(reply);
     print_moves(map, sizeof map, sheet);
     return 0;
 }

@@ -1,6 +1,5 @@
 /* Plans a trip, previews it with each road of the map closed, then strikes one of them and plans again. Run it by
  * examples/run.sh. */
-#include <inttypes.h>
 #include <string.h>
 #include "listing.h"
 
@@ -32,21 +31,32 @@ static uint8_t map[4 * MAP_WORDS + NAME_BYTES], order[TRUNK_ORDER_BYTES], sheet[
 static uint32_t words[TRUNK_LABEL_WORDS * 100]; /* room for 100 labels */
 static const size_t word_count = sizeof words / sizeof *words;
 
-static void plan(uint64_t *reply) {
+/* Whether there is a plan. */
+static int plan(uint64_t *reply) {
     trunk_plan(map, sizeof map, order, sizeof order, words, word_count, sheet, sizeof sheet, reply, 3);
+    return !refused(reply);
 }
 
-/* What the road's closure costs; the map stays as it is. */
-static void preview(uint32_t road, uint64_t arrival) {
+/* What the road's closure costs; the map stays as it is. Whether the preview has an answer. */
+static int preview(uint32_t road, uint64_t arrival) {
     uint64_t reply[3];
     trunk_preview(map, sizeof map, order, sizeof order, road, words, word_count, sheet, sizeof sheet, reply, 3);
-    if (reply[0] == TRUNK_DONE) {
-        printf("road %u closed: arrives %" PRIu64 ", %" PRIu64 " later\n", road, reply[2], reply[2] - arrival);
-    } else if (reply[0] == TRUNK_NO_ROAD) {
+    if (reply[0] == TRUNK_NO_ROAD) {
         printf("road %u closed: no road is left\n", road);
-    } else {
-        printf("refused %" PRIu64 " %" PRIu64 "\n", reply[0], reply[1]);
+        return 1;
     }
+    if (refused(reply)) {
+        return 0;
+    }
+    printf("road %u closed: arrives %" PRIu64 ", %" PRIu64 " later\n", road, reply[2], reply[2] - arrival);
+    return 1;
+}
+
+/* Whether the road is struck. */
+static int strike(uint32_t road) {
+    uint64_t reply[3];
+    trunk_strike(map, sizeof map, road, reply, 3);
+    return !refused(reply);
 }
 
 int main(void) {
@@ -55,21 +65,18 @@ int main(void) {
     memcpy(map + 4 * MAP_WORDS, "HubLayInnEnd", NAME_BYTES);
     put_words(order, order_words, ORDER_WORDS);
 
-    plan(reply);
-    if (reply[0] != TRUNK_DONE) {
+    if (!plan(reply)) {
         return 1;
     }
     printf("all open: arrives %" PRIu64 "\n", reply[2]);
     print_moves(map, sizeof map, sheet);
     for (uint32_t road = 1; road <= ROADS; road++) {
-        preview(road, reply[2]);
+        if (!preview(road, reply[2])) {
+            return 1;
+        }
     }
 
-    trunk_strike(map, sizeof map, CLOSED, reply, 3);
-    if (reply[0] == TRUNK_DONE) {
-        plan(reply);
-    }
-    if (reply[0] != TRUNK_DONE) {
+    if (!strike(CLOSED) || !plan(reply)) {
         return 1;
     }
     printf("road %d struck: arrives %" PRIu64 "\n", CLOSED, reply[2]);

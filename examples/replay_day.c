@@ -27,11 +27,12 @@ static int plan(uint32_t *order_words, const uint32_t *figures) {
     order_words[WEEK] = figures[2];
     put_words(order, order_words, ORDER_WORDS);
     trunk_plan(map, sizeof map, order, sizeof order, words, sizeof words / sizeof *words, sheet, sizeof sheet, reply, 3);
-    print_reply(reply);
-    if (reply[0] == TRUNK_DONE) {
-        print_moves(map, sizeof map, sheet);
+    if (refused(reply)) {
+        return 0;
     }
-    return reply[0] == TRUNK_DONE;
+    print_reply(reply);
+    print_moves(map, sizeof map, sheet);
+    return 1;
 }
 
 /* Plans with the day behind these hours. */
@@ -40,8 +41,11 @@ static int plan_after_day(uint32_t *order_words, uint32_t *figures) {
     uint64_t reply[3];
     put_words(trace, day, 2 * RECORDS);
     trunk_replay(trace, sizeof trace, order_words + SPELL_LIMIT, TRUNK_RULE_WORDS, figures, TRUNK_FIGURE_WORDS, reply, 3);
+    if (refused(reply)) {
+        return 0;
+    }
     print_reply(reply);
-    return reply[0] == TRUNK_DONE && plan(order_words, figures);
+    return plan(order_words, figures);
 }
 
 int main(void) {

@@ -1,5 +1,11 @@
 //! Puts a map together from junctions and roads, chains it and writes it to a file: `make_map FILE`.
-//! The one made here is map T of document 01.
+//! The one made here is map T.
+mod ending;
+mod files;
+
+use std::error::Error;
+use std::fs;
+use std::process::ExitCode;
 
 /// A junction: its name, and whether it is a car park.
 struct Junction(&'static str, bool);
@@ -7,8 +13,15 @@ struct Junction(&'static str, bool);
 /// A road: from and to, as junction numbers from 1, metres and km per hour.
 struct Road(u32, u32, u32, u32);
 
-fn main() -> Result<(), Box<dyn std::error::Error>> {
-    let file = std::env::args().nth(1).ok_or("make_map FILE")?;
+fn main() -> ExitCode {
+    let arguments: Vec<String> = std::env::args().skip(1).collect();
+    match &arguments[..] {
+        [file] => ending::ended(make_map(file)),
+        _ => files::usage("make_map FILE"),
+    }
+}
+
+fn make_map(file: &str) -> Result<(), Box<dyn Error>> {
     let junctions = [
         Junction("Hub", false),
         Junction("Lay", true),
@@ -21,7 +34,7 @@ fn main() -> Result<(), Box<dyn std::error::Error>> {
     ];
     let mut map = map_bytes(&junctions, &roads);
     trunk::make_chains(&mut map)?;
-    std::fs::write(&file, &map)?;
+    files::named(file, fs::write(file, &map))?;
     println!("{} bytes written to {file}", map.len());
     Ok(())
 }

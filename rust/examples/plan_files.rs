@@ -1,22 +1,30 @@
 //! Plans the trip of a map and an order and keeps the sheet: `plan_files MAP ORDER SHEET`.
+mod ending;
+mod files;
 
 use std::error::Error;
 use std::fs;
+use std::process::ExitCode;
 
-use trunk::{LABEL_WORDS, Planned, Refusal, Refused};
+use trunk::{LABEL_WORDS, MOST_LABELS, Planned, Refusal, Refused};
 
-/// The most labels that planning uses.
-const MOST_LABELS: usize = 1_000_000;
+fn main() -> ExitCode {
+    let arguments: Vec<String> = std::env::args().skip(1).collect();
+    match &arguments[..] {
+        [map, order, sheet] => ending::ended(plan_files(map, order, sheet)),
+        _ => files::usage("plan_files MAP ORDER SHEET"),
+    }
+}
 
-fn main() -> Result<(), Box<dyn Error>> {
-    let words: Vec<String> = std::env::args().skip(1).collect();
-    let [map, order, file] = &words[..] else {
-        return Err("plan_files MAP ORDER SHEET".into());
-    };
-    let (planned, sheet) = plan(&fs::read(map)?, &fs::read(order)?)?;
-    fs::write(file, &sheet)?;
+fn plan_files(map: &str, order: &str, file: &str) -> Result<(), Box<dyn Error>> {
+    let (planned, sheet) = plan(&read(map)?, &read(order)?)?;
+    files::named(file, fs::write(file, &sheet))?;
     println!("planned {} {}", planned.labels, planned.arrival);
     Ok(())
+}
+
+fn read(file: &str) -> Result<Vec<u8>, String> {
+    files::named(file, fs::read(file))
 }
 
 /// With no room for a sheet, refusal 14 tells how many bytes the plan needs.

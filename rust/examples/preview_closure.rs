@@ -1,23 +1,23 @@
 //! Plans a trip, previews it with each road of the map closed, then strikes one of them and plans again, as
 //! `examples/preview_closure.c` does.
+mod ending;
 mod listing;
 
+use std::process::ExitCode;
+
 use listing::{bytes_of, print_moves};
-use trunk::{LABEL_WORDS, Refusal, Refused};
+use trunk::{LABEL_WORDS, Order, Refusal, Refused};
 
 const ROADS: u32 = 4;
 const CLOSED: u32 = 2;
 
-fn main() -> Result<(), Refused> {
+fn main() -> ExitCode {
+    ending::ended(preview_closures())
+}
+
+fn preview_closures() -> Result<(), Refused> {
     let mut map = map_with_a_detour();
-    let order = bytes_of(&[
-        1, 4, 0, 100_000, // source, target, departure, latest arrival
-        0, 0, // spell and shift so far
-        16_200, 2_700, 32_400, 39_600, // the European limits and pauses
-        0, 0, // no split break
-        201_600, 162_000, // the European week limit and weekly rest
-        0,       // week so far
-    ]);
+    let order = Order::european(1, 4, 0, 100_000).to_bytes();
     let mut words = vec![0; LABEL_WORDS * 100]; // room for 100 labels
     let mut sheet = vec![0; 1000];
 

@@ -1,26 +1,31 @@
 //! Plans map T for a driver who comes from a weekly rest, then brings the hours up to date from a day's trace and plans
 //! again, early in the week and where the week is nearly driven, as `examples/replay_day.c` does.
+mod ending;
 mod listing;
 mod map_t;
 
-use listing::{bytes_of, print_moves};
-use map_t::map_t;
-use trunk::{DRIVING, Figures, LABEL_WORDS, OTHER_WORK, PAUSE, Refused, Rules};
+use std::process::ExitCode;
+
+use trunk::{Activity, Figures, LABEL_WORDS, Order, Refused, Rules, TraceRecord};
 
 const RULES: Rules = Rules::european();
 
-/// What the tachograph has: activity and seconds.
-const DAY: [(u32, u32); 7] = [
-    (OTHER_WORK, 1_800), // loading
-    (DRIVING, 10_800),
-    (PAUSE, 1_200), // two neighbours, which are one pause, as long as a break
-    (PAUSE, 1_500),
-    (DRIVING, 4_500),
-    (OTHER_WORK, 900),
-    (PAUSE, 900), // too short for a break, but the first part of one
+/// What the tachograph has.
+const DAY: [TraceRecord; 7] = [
+    TraceRecord::new(Activity::OtherWork, 1_800), // loading
+    TraceRecord::new(Activity::Driving, 10_800),
+    TraceRecord::new(Activity::Pause, 1_200), // two neighbours, which are one pause, as long as a break
+    TraceRecord::new(Activity::Pause, 1_500),
+    TraceRecord::new(Activity::Driving, 4_500),
+    TraceRecord::new(Activity::OtherWork, 900),
+    TraceRecord::new(Activity::Pause, 900), // too short for a break, but the first part of one
 ];
 
-fn main() -> Result<(), Refused> {
+fn main() -> ExitCode {
+    ending::ended(plan_three_times())
+}
+
+fn plan_three_times() -> Result<(), Refused> {
     let from_weekly_rest = Figures::default();
     let late_in_the_week = Figures {
         week: 170_000,
@@ -33,14 +38,12 @@ fn main() -> Result<(), Refused> {
 
 /// Plans with the day behind these hours.
 fn plan_after_day(mut figures: Figures) -> Result<(), Refused> {
-    let words = DAY.map(|(activity, seconds)| [activity, seconds]);
-    let trace = bytes_of(&words.concat());
-    let replayed = trunk::replay(&trace, RULES, &mut figures)?;
+    let replayed = trunk::replay(&trunk::trace_bytes(&DAY), RULES, &mut figures)?;
     println!("reply 0 {} 0", replayed.records);
     plan(figures)
 }
 
-/// From Hub to End, with these hours behind the driver.
+/// From Hub to End, with these hours behind the driver. An order has no place for the mark.
 fn plan(figures: Figures) -> Result<(), Refused> {
     let Figures {
         spell,
@@ -50,19 +53,15 @@ fn plan(figures: Figures) -> Result<(), Refused> {
     } = figures;
     let mark = u32::from(marked);
     println!("spell {spell} shift {shift} week {week} mark {mark}");
-    let map = map_t();
-    let mut order = vec![
-        1,       // source
-        3,       // target
-        0,       // departure
-        200_000, // latest arrival
-        spell, shift,
-    ];
-    order.extend(RULES.words());
-    order.push(week);
+    let map = map_t::map_t();
+    let trip = Order {
+        rules: RULES,
+        ..Order::european(1, 3, 0, 200_000)
+    };
+    let order = trip.with_figures(figures).to_bytes();
     let mut words = vec![0; LABEL_WORDS * 100]; // room for 100 labels
     let mut sheet = vec![0; 1000];
-    let planned = trunk::plan(&map, &bytes_of(&order), &mut words, &mut sheet)?;
+    let planned = trunk::plan(&map, &order, &mut words, &mut sheet)?;
     println!("reply 0 {} {}", planned.labels, planned.arrival);
-    print_moves(&map, &sheet)
+    listing::print_moves(&map, &sheet)
 }

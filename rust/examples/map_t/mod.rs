@@ -1,4 +1,4 @@
-//! Map T of document 01 for the examples.
+//! Map T, of three junctions and three roads, for the examples.
 use crate::listing::bytes_of;
 
 pub fn map_t() -> Vec<u8> {
