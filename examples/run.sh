@@ -8,11 +8,18 @@ set -euo pipefail
 cd "$(dirname "$0")/.."
 if [ "${1:-}" != --built ]; then rt staticlib trunk >&2; fi
 
-in_both="plan_map_t replay_day preview_closure"
+in_both="plan_map_t replay_day preview_closure two_junctions"
 made=target/examples rust=target/rust/debug/examples order=crates/plan/data/order
 # The library just built, whatever folder the environment names.
 export TRUNK_LIB_DIR="$PWD/target/staticlib" CARGO_TARGET_DIR="$PWD/target/rust"
 mkdir -p "$made"
+
+# for_c EXAMPLE PROGRAM [OPTION..]: builds a C example.
+for_c() {
+    local example=$1 program=$2
+    shift 2
+    cc -std=c11 -O2 -Wall -Wextra -Iinclude "$@" "examples/$example.c" "$TRUNK_LIB_DIR/libtrunk.a" -o "$program"
+}
 
 # told STATUS LINE COMMAND..: the command ends with this status and prints this one line, on standard error.
 told() {
@@ -33,10 +40,13 @@ if command -v c++ >/dev/null; then
     echo '#include "trunk.h"' | c++ -std=c++11 -Wall -Wextra -pedantic -Werror -Iinclude -fsyntax-only -x c++ -
 fi
 for example in $in_both; do
-    cc -std=c11 -O2 -Wall -Wextra -Iinclude "examples/$example.c" "$TRUNK_LIB_DIR/libtrunk.a" -o "$made/$example"
+    for_c "$example" "$made/$example"
     "$made/$example" | tee "$made/from_c"
     diff "$made/from_c" "examples/$example.expected"
 done
+for_c two_junctions "$made/too_early" -DLATEST=44
+no_journey="refusal 13, place 1: no legal journey exists; the place is the number of labels"
+told 1 "$no_journey" "$made/too_early"
 echo "C: as expected"
 
 cargo test --quiet --offline --manifest-path rust/Cargo.toml
