@@ -16,6 +16,7 @@ if [ ! -f "$before/libbytewise.a" ]; then
         "$before/target/staticlib/libtrunk.a" "$before/libbytewise.a"
 fi
 rt staticlib trunk >&2
-export CARGO_TARGET_DIR="$PWD/target/bench"
+# The library just built, whatever folder the environment names.
+export TRUNK_LIB_DIR="$PWD/target/staticlib" CARGO_TARGET_DIR="$PWD/target/bench"
 cargo rustc --quiet --release --offline --manifest-path bench/Cargo.toml --bin lettering --features bytewise -- -L "native=$before"
 exec target/bench/release/lettering

@@ -4,7 +4,8 @@
 set -eu
 cd "$(dirname "$0")/.."
 rt staticlib trunk >&2
-export CARGO_TARGET_DIR="$PWD/target/bench"
+# The library just built, whatever folder the environment names.
+export TRUNK_LIB_DIR="$PWD/target/staticlib" CARGO_TARGET_DIR="$PWD/target/bench"
 cargo build --quiet --release --offline --manifest-path bench/Cargo.toml
 # Memory that a planner gave back stays with the process, so that no time has the taking of it from the system in it.
 export MALLOC_MMAP_THRESHOLD_=33554432 MALLOC_TRIM_THRESHOLD_=1073741824

@@ -393,13 +393,13 @@ pub fn make_chains(map: &mut [u8]) -> Result<(), Refused> {
 /// Replaying: brings a driver's figures up to date from a tachograph's trace. Refusals 10, 11, 21, then 22 and 23 record
 /// by record; a refusal leaves the figures.
 ///
-/// [`trace_bytes`] makes a trace of records. A record is two little-endian words: [`OTHER_WORK`], [`DRIVING`] or [`PAUSE`],
-/// and its seconds, 1 to [`MOST_TRACE_SECONDS`]. Driving adds to spell, shift and week. Neighbouring pauses are one pause, judged whole, with the
-/// mark from before it. At least as long as the break it clears spell and the mark, at least as long as the rest shift too,
-/// at least as long as the weekly rest week too. One shorter than the break counts where the rules have a split: with the
-/// mark and at least as long as the second part it clears mark and spell, otherwise it sets the mark if it is at least as
-/// long as the first part. Other work clears nothing and ends a pause, and so does the trace's end: the pauses of two traces
-/// are not joined.
+/// [`trace_bytes`] makes a trace of records. A record is two little-endian words: [`OTHER_WORK`], [`DRIVING`] or
+/// [`PAUSE`], and its seconds, 1 to [`MOST_TRACE_SECONDS`]. Driving adds to spell, shift and week. Neighbouring pauses
+/// are one pause, judged whole, with the mark from before it. At least as long as the break it clears spell and the
+/// mark, at least as long as the rest shift too, at least as long as the weekly rest week too. One shorter than the
+/// break counts where the rules have a split: with the mark and at least as long as the second part it clears mark and
+/// spell, otherwise it sets the mark if it is at least as long as the first part. Other work clears nothing and ends a
+/// pause, and so does the trace's end: the pauses of two traces are not joined.
 ///
 /// ```
 /// use trunk::{Activity, Figures, Rules, TraceRecord};
