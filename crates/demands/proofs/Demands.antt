@@ -77,7 +77,7 @@ use Rattle.demands.proofs.Struck.{told-struck, leads-back, length-struc
 -- DEMAND 1.
 
 -- "Every operation ends and does nothing undefined, for all maps, orders, sheets and lent space": Rattle proves of every function that it ends
--- and does nothing undefined wherever its `requires` hold, and no operation has one (README.md, "Use it", lists the operations).
+-- and does nothing undefined wherever its `requires` hold, and no operation has one (docs/ARCHITECTURE.md, "The operations", lists them).
 
 -- "bad input gets its number and place from document 01": each refusal of the operation's list is told, with its place, exactly when it
 -- fits and none before it in the list does
