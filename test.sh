@@ -48,9 +48,13 @@ end() {
 said=$(mktemp)
 trap end EXIT
 
-step "Format of the sources, and the list of definitions to believe"
+step "Version of the prover"
+rt version
+
+step "Format of the sources; the definitions to believe and the wrong planners of docs/TRUST.md"
 rt fmt --check
 python3 tests/believed.py --check
+python3 tests/wrong_planners.py
 
 step "Other planner: build and self-test"
 # Not below target/, which `rt ci` removes.
@@ -62,6 +66,9 @@ tests/other/target/release/other wrong 1 2000
 
 step "Stored worked cases"
 python3 tests/worked_cases.py --check
+
+step "Pages for callers: links, worked example, refusals"
+python3 tests/pages.py
 
 step "Proofs from nothing, wrong programs and test programs (the longest step)"
 rt ci | tee "$said"
