@@ -51,18 +51,6 @@ fn named(map: &[u8], junction: u32) -> NameAnswer {
 
 /// The figures are handed back whatever the reply, so that a refusal which changes them shows.
 fn replayed(trace: &[u8], rules: LentRules, figures: &mut LentFigures) -> Reply {
-    let [spell_limit, break_time, shift_limit, rest_time, parts_and_week @ ..] = rules;
-    let [first_part, second_part, week_limit, weekly_rest] = parts_and_week;
-    let rules = Rules {
-        spell_limit,
-        break_time,
-        shift_limit,
-        rest_time,
-        first_part,
-        second_part,
-        week_limit,
-        weekly_rest,
-    };
     let [spell, shift, week, mark] = *figures;
     let mut lent = Figures {
         spell,
@@ -70,7 +58,7 @@ fn replayed(trace: &[u8], rules: LentRules, figures: &mut LentFigures) -> Reply 
         week,
         marked: mark != 0,
     };
-    let answer = trunk::replay(trace, rules, &mut lent);
+    let answer = trunk::replay(trace, Rules::from_words(rules), &mut lent);
     *figures = [lent.spell, lent.shift, lent.week, lent.marked.into()];
     told(answer, |replayed| (replayed.records, 0))
 }
