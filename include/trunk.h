@@ -1,6 +1,7 @@
 /* The trunk lorry planner for C: a legal route with breaks and rests that arrives first.
  *
- * Build the library with `rt staticlib trunk` (it writes target/staticlib/libtrunk.a, for x86-64 Linux) and link it:
+ * Build the library with `rt staticlib trunk` (it writes target/staticlib/libtrunk.a, for x86-64 Linux) and link it to a
+ * program in C99 or later, or C++:
  *     cc -Iinclude program.c target/staticlib/libtrunk.a
  *
  * Each function is proved to do what its contract says, for every content and every length of what it is lent; the
@@ -145,7 +146,7 @@ static inline const char *trunk_refusal_text(uint64_t number) {
         /*  8 */ "a byte of the names is outside 0x20 to 0x7E; the place is the lowest such offset in the map",
         /*  9 */ "the order is not 60 bytes long; the place is its length",
         /* 10 */ "a limit or a pause of the rules is out of range; the place is the first such word of an order, 6 to 13",
-        /* 11 */ "the trip or a starting figure is out of range; the place is the first such word of an order, 0 to 5 or 14",
+        /* 11 */ "the trip or a starting figure is out of range; the place is the first such word of an order, 0, 1, 3, 4, 5 or 14",
         /* 12 */ "more labels are needed than fit; the place is how many fit",
         /* 13 */ "no legal journey exists; the place is the number of labels",
         /* 14 */ "the sheet to write is too short; the place is the bytes needed",
@@ -168,7 +169,7 @@ void trunk_check_map(const uint8_t *map, size_t map_length,
                      uint64_t *reply, size_t reply_count);
 
 /* Order check: an order alone, as it is typed. Reads the order; `junctions` is J of the map that the order is meant for,
- * word 1 of that map. Refuses 9 to 11; success is 0, 0, 0. Planning, the preview, retiming and audit judge the order
+ * the word at offset 4 of that map, and is not judged itself. Refuses 9 to 11; success is 0, 0, 0. Planning, the preview, retiming and audit judge the order
  * likewise, after the map. */
 void trunk_check_order(const uint8_t *order, size_t order_length,
                        uint32_t junctions,
@@ -203,7 +204,7 @@ void trunk_audit(const uint8_t *map, size_t map_length,
 
 /* Name of a junction. Writes to `part` where in the map the name starts and how long it is, 0 and 0 when refused. `part`
  * takes two numbers; with less room than that the call does nothing, as with a short reply. The name has no byte 0 at its
- * end. Refuses 1 to 8, 20. Success is 0, the name's length, 0. */
+ * end. Beware that `part` comes behind the reply here. Refuses 1 to 8, 20. Success is 0, the name's length, 0. */
 void trunk_name(const uint8_t *map, size_t map_length,
                 uint32_t junction,
                 uint64_t *reply, size_t reply_count,

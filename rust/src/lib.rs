@@ -38,7 +38,7 @@
 //! Threads of the standard library have 2 MiB unless they are given less.
 //!
 //! The package links `libtrunk.a`, which `rt staticlib trunk` writes to `target/staticlib` of the repository; the variable
-//! `TRUNK_LIB_DIR` names another folder that has it.
+//! `TRUNK_LIB_DIR` names another folder that has it, a relative one counted from this package's. It is for x86-64 Linux.
 #![warn(missing_docs)]
 
 mod order;
@@ -207,7 +207,7 @@ pub fn check_map(map: &[u8]) -> Result<(), Refused> {
 
 /// Order check: an order alone, as it is typed. Refusals 9 to 11.
 ///
-/// `junctions` is how many the map has that the order is meant for, word 1 of that map.
+/// `junctions` is how many the map has that the order is meant for, the word at offset 4 of that map.
 ///
 /// ```
 /// use trunk::{Order, Refusal, Refused};
@@ -367,7 +367,7 @@ pub fn name(map: &[u8], junction: u32) -> Result<&str, Refused> {
         )
     })?;
     let [from, length] = part.map(|number: u64| number as usize);
-    let spelt = str::from_utf8(&map[from..from + length]);
+    let spelt = std::str::from_utf8(&map[from..from + length]);
     Ok(spelt.expect("the names of an accepted map are bytes 0x20 to 0x7E"))
 }
 
@@ -478,6 +478,7 @@ pub fn strike(map: &mut [u8], road: u32) -> Result<(), Refused> {
 /// let map = std::fs::read("../crates/plan/data/map")?; // map T: road 3 leads from Hub 1 to End 3
 /// let order = trunk::Order::european(1, 3, 0, 100_000).to_bytes();
 /// let (mut words, mut sheet) = ([0; 10 * trunk::LABEL_WORDS], [0; 1000]);
+/// // The plan does not use road 3, and there is none without road 2.
 /// let closed = trunk::preview(&map, &order, 3, &mut words, &mut sheet)?;
 /// assert_eq!(closed.arrival, 20_700);
 /// let none = trunk::preview(&map, &order, 2, &mut words, &mut sheet).unwrap_err();

@@ -16,11 +16,11 @@ const RULE_WORDS: usize = 8;
 /// ```
 #[derive(Clone, Copy, Debug, PartialEq, Eq, Hash)]
 pub struct Rules {
-    /// The most wheel time from one pause to the next.
+    /// The most wheel time from one break, second part, rest or weekly rest to the next.
     pub spell_limit: u32,
     /// How long a break is.
     pub break_time: u32,
-    /// The most wheel time from one rest to the next.
+    /// The most wheel time from one rest or weekly rest to the next.
     pub shift_limit: u32,
     /// How long a rest is.
     pub rest_time: u32,

@@ -50,7 +50,7 @@ refusals! {
     BadLettering = 8, "a byte of the names is outside 0x20 to 0x7E; the place is the lowest such offset in the map";
     BadOrder = 9, "the order is not 60 bytes long; the place is its length";
     BadRules = 10, "a limit or a pause of the rules is out of range; the place is the first such word of an order, 6 to 13";
-    BadTrip = 11, "the trip or a starting figure is out of range; the place is the first such word of an order, 0 to 5 or 14";
+    BadTrip = 11, "the trip or a starting figure is out of range; the place is the first such word of an order, 0, 1, 3, 4, 5 or 14";
     Full = 12, "more labels are needed than fit; the place is how many fit";
     NoRoad = 13, "no legal journey exists; the place is the number of labels";
     ShortSheet = 14, "the sheet to write is too short; the place is the bytes needed";
