@@ -1,56 +1,49 @@
 -- Words of letters: what the test of a word says of its bytes. Assumes nothing.
-use mathlib.Core.Path.{_≡_, _∙_, refl, sym, subst}
-use mathlib.Core.Bool.{Bool, false, _||_}
-use mathlib.Core.List.{List, [], _∷_, List·Memᴰ, List·Memᴰ·head, List·Memᴰ·tail, List·Memᴰ·not-nil, List·Memᴰ·cases-cons}
-use mathlib.Core.Logic.{_↔_, ⊎-elim}
+use mathlib.Core.Path.{_≡_, _∙_, refl, sym}
+use mathlib.Core.Bool.{Bool, true, false, not, _&&_, _||_}
+use mathlib.Core.Logic.{_↔_}
 use Prim.Native.Nat.{ℕ, _/_, _%_, _<_}
 use native.Mathlib.Omega.{arith}
-use borrow.Author.Tests.{ltb-false, le-ltb}
-use lib.Dec.{ltb}
-use Rattle.booleans.proofs.Tests.{or-false}
+use borrow.Author.Tests.{le-ltb, not-true, not-false}
+use lib.Dec.{T}
+use Rattle.booleans.proofs.Tests.{T-true, true-T}
+use Rattle.theory.specs.Lists.{every}
+use Rattle.theory.proofs.Lists.{every-at, every-of}
 use Rattle.sheets.specs.Sheet.{wordBytes}
 use Rattle.mapcheck.specs.MapCheck.{outside}
 use Rattle.mapcheck.specs.Lettered.{badWord}
+use Rattle.mapcheck.proofs.Counts.{within}
 use Rattle.demands.specs.Letters.{Letter, AllLetters}
 
-letter-told : (byte : ℕ) → outside 0x20 0x7E byte ≡ false → Letter byte
+abbrev isLetter : ℕ → Bool
+isLetter byte = not (outside 0x20 0x7E byte)
+
+letter-told : (byte : ℕ) → T (isLetter byte) → Letter byte
+letter-told byte told = let bounds = within {low = 0x20} {high = 0x7E} {value = byte} (not-true (outside 0x20 0x7E byte) (T-true told)) in (bounds .above, bounds .below)
+
+letter-passes : (byte : ℕ) → Letter byte → T (isLetter byte)
 unfolding outside
-letter-told byte told = let both = or-false {a = ltb byte 0x20} told in (ltb-false byte 0x20 (both .0), ltb-false 0x7E byte (both .1))
+letter-passes byte letter = rw (le-ltb byte 0x20 (letter .0), le-ltb 0x7E byte (letter .1)) tt
 
-letter-passes : (byte : ℕ) → Letter byte → outside 0x20 0x7E byte ≡ false
-unfolding outside
-letter-passes byte letter = rw (le-ltb byte 0x20 (letter .0), le-ltb 0x7E byte (letter .1)) refl
+or-not : (a b : Bool) → (a || not b) ≡ not (not a && b)
+or-not true b = refl
+or-not false b = refl
 
--- one of the bytes is no letter
-unfoldable someBad : List ℕ → Bool
-someBad [] = false
-someBad (byte ∷ bytes) = outside 0x20 0x7E byte || someBad bytes
-
-letters-told : (bytes : List ℕ) → someBad bytes ≡ false → (byte : ℕ) → List·Memᴰ byte bytes → Letter byte
-unfolding someBad
-letters-told [] told byte in-it = absurd (List·Memᴰ·not-nil in-it)
-letters-told (b ∷ bytes) told byte in-it =
-    let both = or-false {a = outside 0x20 0x7E b} told in
-    ⊎-elim
-    (λ (e : byte ≡ b). subst Letter (sym e) (letter-told b (both .0)))
-    (λ (later : List·Memᴰ byte bytes). letters-told bytes (both .1) byte later)
-    (List·Memᴰ·cases-cons in-it)
-
-letters-pass : (bytes : List ℕ) → ((byte : ℕ) → List·Memᴰ byte bytes → Letter byte) → someBad bytes ≡ false
-unfolding someBad
-letters-pass [] letters = refl
-letters-pass (b ∷ bytes) letters =
-    rw (letter-passes b (letters b (List·Memᴰ·head refl))) (letters-pass bytes (λ byte later. letters byte (List·Memᴰ·tail later)))
-
-word-bytes : (word : ℕ) → word < 4294967296 → badWord word ≡ someBad (wordBytes word)
-unfolding someBad badWord wordBytes
+-- one byte is no letter, or not all the others are letters
+word-bytes : (word : ℕ) → word < 4294967296 → badWord word ≡ not (every isLetter (wordBytes word))
+unfolding every badWord wordBytes
 word-bytes word is-word =
     let third : word / 256 / 256 % 256 ≡ word / 65536 % 256 = omega arith in
     let fourth : word / 256 / 256 / 256 % 256 ≡ word / 16777216 = omega (arith, is-word) in
-    rw (third, fourth) refl
+    let bad : ℕ → Bool = outside 0x20 0x7E in
+    let last : Bool = isLetter (word / 16777216) && true in
+    let two : Bool = isLetter (word / 65536 % 256) && last in
+    let three : Bool = isLetter (word / 256 % 256) && two in
+    rw (third, fourth, or-not (bad (word / 16777216)) true, or-not (bad (word / 65536 % 256)) last, or-not (bad (word / 256 % 256)) two, or-not (bad (word % 256)) three) refl
 
 pub letters-exactly : (word : ℕ) → word < 4294967296 → (badWord word ≡ false) ↔ AllLetters word
-letters-exactly word is-word = (
-  λ passes. letters-told (wordBytes word) (sym (word-bytes word is-word) ∙ passes),
-  λ letters. word-bytes word is-word ∙ letters-pass (wordBytes word) letters,
-)
+letters-exactly word is-word =
+    let all : Bool = every isLetter (wordBytes word) in (
+      λ passes byte in-it. letter-told byte (every-at isLetter (wordBytes word) (true-T (not-false all (sym (word-bytes word is-word) ∙ passes))) in-it),
+      λ letters. word-bytes word is-word ∙ rw (T-true {b = all} (every-of isLetter (wordBytes word) (λ byte in-it. letter-passes byte (letters byte in-it)))) refl,
+    )
