@@ -50,11 +50,11 @@ fn road_to(map: &[u8], run: Run, p: State, t: State) -> u32
     requires { ⌜ RangeIn (tripIn (now map) run) p ⌝ }
     ensures { λ r. ⌜ RoadTo (tripIn (now (map .entry)) run) p t r ⌝ }
 {
-    let mut reader = chains::at_junction(map, p.junction);
-    while passes_by(map, run, p, t, reader.road) {
-        reader = chains::moved_on(reader);
+    let mut road = chains::first_of_junction(map, p.junction);
+    while passes_by(map, run, p, t, road) {
+        road = chains::road_after(map, road);
     }
-    reader.road
+    road
 }
 
 // Whether the pause of this kind is offered in p and leads legally to t.
