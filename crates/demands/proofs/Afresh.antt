@@ -64,8 +64,8 @@ module _ {mapA orderA words sheet sheet′ : List ℕ} {answer : Planning} (w : 
   abbrev true-rows : List Row
   true-rows = rowsFrom tb (startIn tb) (planMoves ta)
 
-  walked : timing false mapB (orderOf orderB) (headerAndRecords sheet′) ≡ reached u true-rows
-  unfolding timing planRows tripOf
+  walked : timing false tb (headerAndRecords sheet′) ≡ reached u true-rows
+  unfolding timing planRows
   walked = ap (walk false tb 1 (startIn tb)) (rows-kept w) ∙ walk-leads tb ta 1 (startIn ta) (journey .leads)
 
   count-kept : movesOn (headerAndRecords sheet′) ≡ movesOn sheet′

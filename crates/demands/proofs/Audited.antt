@@ -17,7 +17,7 @@ use Rattle.mapcheck.proofs.Counts.{placed-none}
 use Rattle.driving.specs.Order.{orderOf}
 use Rattle.states.specs.declared.State.{State}
 use Rattle.moves.specs.declared.Step.the-variants.{Moved}
-use Rattle.moves.specs.Trip.{Trip, tripOf}
+use Rattle.moves.specs.Trip.{Trip}
 use Rattle.moves.specs.Moves.{stepped}
 use Rattle.moves.specs.RunTests.{runTests}
 use Rattle.sheets.specs.declared.Row.{Row}
@@ -60,7 +60,7 @@ module _ (bytes order sheet : List ℕ) (number-0 : auditReply bytes order sheet
   trip = tripFrom bytes order
 
   abbrev walked : Walk
-  walked = timing true bytes (orderOf order) sheet
+  walked = timing true trip sheet
 
   none-fit : NoneFits (auditTests bytes order sheet walked)
   none-fit = none-fitted (auditTests bytes order sheet walked) _ (audit-numbered bytes order sheet) number-0
@@ -87,7 +87,7 @@ module _ (bytes order sheet : List ℕ) (number-0 : auditReply bytes order sheet
   found = end .is
 
   passed : Passed trip (startIn trip) (movesRead sheet) reached-by (end .rows)
-  unfolding timing tripOf
+  unfolding timing
   passed = walk-passed true trip 1 (startIn trip) (rowsOf sheet 1 (movesOn sheet)) found
 
   own-rows : rowsOf sheet 1 (movesOn sheet) ≡ end .rows

@@ -116,8 +116,8 @@ pair-test-passes first second is-first is-second bad tested = (
 )
 
 pub audit-replies : (map order sheet : List ℕ) (answer : Timing) → toldTiming answer ≡ auditReply map order sheet →
-    RepliesBy (auditTests map order sheet (timing true map (orderOf order) sheet)) (toldTiming answer)
-audit-replies map order sheet answer told = replies-by (auditTests map order sheet (timing true map (orderOf order) sheet)) _ refl (audit-numbered map order sheet) told
+    RepliesBy (auditTests map order sheet (timing true (tripFrom map order) sheet)) (toldTiming answer)
+audit-replies map order sheet answer told = replies-by (auditTests map order sheet (timing true (tripFrom map order) sheet)) _ refl (audit-numbered map order sheet) told
 
 -- "Audit: retiming without writing, comparing clocks and header": the bytes of a sheet that passes hold a legal journey with true figures, whose
 -- arrival is the reply's
@@ -225,8 +225,8 @@ module _ {one two : List ℕ} {rules : Rules} {before between after after-both :
   replay-in-turn-refused = told-first two replayed-one replayed-both
 
 module _ {map order sheet out out′ : List ℕ} {answer : Timing} (retimed : Retimed map order sheet out out′ answer) where
-  pub retiming-replies : RepliesBy (retimingTests map order sheet out (timing false map (orderOf order) sheet)) (toldTiming answer)
-  retiming-replies = replies-by (retimingTests map order sheet out (timing false map (orderOf order) sheet)) _ refl (retiming-numbered map order sheet out) (retimed .reply)
+  pub retiming-replies : RepliesBy (retimingTests map order sheet out (timing false (tripFrom map order) sheet)) (toldTiming answer)
+  retiming-replies = replies-by (retimingTests map order sheet out (timing false (tripFrom map order) sheet)) _ refl (retiming-numbered map order sheet out) (retimed .reply)
 
   -- "a refusal leaves the sheet's bytes untouched"
   pub retiming-leaves : ¬ (toldTiming answer .number ≡ 0) → out′ ≡ out

@@ -90,7 +90,7 @@ module _ {bytes order sheet out out′ : List ℕ} {answer : Timing} (retimed : 
   count = sym (row-count bytes order sheet out number-0)
 
   passed : Passed trip (startIn trip) (movesRead sheet) state rows
-  unfolding timing tripOf
+  unfolding timing
   passed = walk-passed false trip 1 (startIn trip) (rowsOf sheet 1 (movesOn sheet)) (found-reached bytes order sheet out number-0)
 
   same-count : movesOn out′ ≡ movesOn sheet

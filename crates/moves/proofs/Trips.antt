@@ -114,9 +114,9 @@ module _ (map : List ℕ) (run : Run) where
       }
 
 -- without a struck road it is that of the map and the order
-pub unstruck-trip : {map : List ℕ} {run : Run} → Unstruck map run → tripIn map run ≡ tripOf map (run .order)
+pub unstruck-trip : {map : List ℕ} {run : Run} {order : Order} → Unstruck map run → run .order ≡ order → tripIn map run ≡ tripOf map order
 unfolding struckIn
-unstruck-trip {map} {run} opened = ap (λ (k : ℕ). struckIn k (tripOf map (run .order))) (opened .none-struck)
+unstruck-trip {map} opened is = ap₂ (λ (k : ℕ) (o : Order). struckIn k (tripOf map o)) (opened .none-struck) is
 
 -- which roads leave a junction, by the map
 module _ {map : List ℕ} {run : Run} {trip : Trip} (tied : Tied map run trip) where

@@ -17,7 +17,6 @@ use Rattle.driving.specs.declared.Order.{Order}
 use Rattle.driving.specs.Order.{orderOf}
 use Rattle.states.specs.declared.State.{State}
 use Rattle.moves.specs.Trip.{Trip, tripOf}
-use Rattle.states.specs.States.{startOf}
 use Rattle.moves.specs.RunTests.{runTests}
 use Rattle.sheets.specs.declared.Heading.{Heading}
 use Rattle.sheets.specs.declared.Row.{Row}
@@ -83,25 +82,25 @@ own-figures given s =
     rw (eq-eqb (s .clock .0) (s .clock .0) refl, eq-eqb (s .figures .spell .0) (s .figures .spell .0) refl, eq-eqb (s .figures .shift .0) (s .figures .shift .0) refl, eq-eqb (s .figures .week .0) (s .figures .week .0) refl)
 
 -- the refusal that a walk meets numbers from 1, and so do the refusals of retiming and of audit
-move-numbered : (clocks : Bool) (map : List ℕ) (order : Order) (sheet : List ℕ) → ltb 0 (moveTest (timing clocks map order sheet) .number) ≡ true
+move-numbered : (clocks : Bool) (trip : Trip) (sheet : List ℕ) → ltb 0 (moveTest (timing clocks trip sheet) .number) ≡ true
 unfolding timing
-move-numbered clocks map order sheet = by (timing clocks map order sheet) refl
+move-numbered clocks trip sheet = by (timing clocks trip sheet) refl
   where
-    by : (w : Walk) → timing clocks map order sheet ≡ w → ltb 0 (moveTest w .number) ≡ true
+    by : (w : Walk) → timing clocks trip sheet ≡ w → ltb 0 (moveTest w .number) ≡ true
     by (refused number move) e = lt-ltb 0 number (omega (arith, walk-number clocks _ 1 _ _ e))
     by (reached s rows) e = refl
 
 module _ (map order sheet : List ℕ) where
-  pub retiming-numbered : (out : List ℕ) → Numbered (retimingTests map order sheet out (timing false map (orderOf order) sheet))
-  retiming-numbered out = rw (move-numbered false map (orderOf order) sheet) tt
+  pub retiming-numbered : (out : List ℕ) → Numbered (retimingTests map order sheet out (timing false (tripOf map (orderOf order)) sheet))
+  retiming-numbered out = rw (move-numbered false (tripOf map (orderOf order)) sheet) tt
 
-  pub audit-numbered : Numbered (auditTests map order sheet (timing true map (orderOf order) sheet))
-  audit-numbered = rw (move-numbered true map (orderOf order) sheet) tt
+  pub audit-numbered : Numbered (auditTests map order sheet (timing true (tripOf map (orderOf order)) sheet))
+  audit-numbered = rw (move-numbered true (tripOf map (orderOf order)) sheet) tt
 
 -- what a retiming that succeeded found, from its reply's number alone
 module _ (map order sheet out : List ℕ) (number-0 : retimingReply map order sheet out .number ≡ 0) where
   abbrev found : Walk
-  found = timing false map (orderOf order) sheet
+  found = timing false (tripOf map (orderOf order)) sheet
 
   none-fitting : NoneFits (retimingTests map order sheet out found)
   none-fitting = none-fitted (retimingTests map order sheet out found) _ (retiming-numbered map order sheet out) number-0
@@ -169,11 +168,10 @@ module _ (map order sheet out : List ℕ) (number-0 : retimingReply map order sh
       ∙ ap (λ (l : List ℕ). rowsOf l 1 (length true-rows)) kept-is
       ∙ prefix-rows heading true-rows out
 
-  audited-walk : timing true map (orderOf order) kept ≡ reached reached-state true-rows
+  audited-walk : timing true (tripOf map (orderOf order)) kept ≡ reached reached-state true-rows
   unfolding timing
   audited-walk =
-      ap (walk true (tripOf map (orderOf order)) 1 (startOf (orderOf order))) rows-kept
-      ∙ walk-again (tripOf map (orderOf order)) 1 (startOf (orderOf order)) (rowsOf sheet 1 (movesOn sheet)) found-reached
+      ap (walk true (tripOf map (orderOf order)) 1 _) rows-kept ∙ walk-again _ 1 _ (rowsOf sheet 1 (movesOn sheet)) found-reached
 
   figures-true : falseFigures (headingOf kept) reached-state ≡ false
   figures-true = ap (λ (h : Heading). falseFigures h reached-state) kept-heading ∙ own-figures (headingOf sheet) reached-state

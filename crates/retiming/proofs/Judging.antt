@@ -14,6 +14,7 @@ use Rattle.replies.specs.Told.{refusedAt, succeeded, toldRefusal}
 use Rattle.replies.proofs.First.{none-fits, stops-at, passed-over}
 use Rattle.driving.specs.declared.Order.{Order}
 use Rattle.states.specs.declared.State.{State}
+use Rattle.moves.specs.Trip.{Trip}
 use Rattle.sheets.specs.declared.Heading.{Heading}
 use Rattle.sheets.specs.Sheet.{headingOf, torn}
 use Rattle.retiming.specs.declared.Walked.{Walked}
@@ -74,17 +75,17 @@ unfolding falseFigures
 figures-by-week heading s arrival spell shift = rw (eq-eqb _ _ arrival, eq-eqb _ _ spell, eq-eqb _ _ shift)
 
 -- audit's reply once a run is opened
-module _ (map : List ℕ) (order : Order) (sheet : List ℕ) where
+module _ (trip : Trip) (sheet : List ℕ) where
   abbrev timed : Walk
-  timed = timing true map order sheet
+  timed = timing true trip sheet
 
-  pub audited-refused : (why : Refusal) → SheetSays order sheet timed (Walked.Refused why) → toldRefusal why ≡ auditedRun map order sheet
+  pub audited-refused : (why : Refusal) → SheetSays true trip sheet (Walked.Refused why) → toldRefusal why ≡ auditedRun trip sheet
   audited-refused why says = sym (says _ _)
 
-  module _ (s : State) (heading : Heading) (is : heading ≡ headingOf sheet) (ended : SheetSays order sheet timed (Walked.Reached s)) where
-    pub audited-false : falseFigures heading s ≡ true → refusedAt 18 (heading .moves + 1) ≡ auditedRun map order sheet
-    audited-false e = rw is (sym (header-false order sheet _ timed s (ended .1) (ended .2) (rw is at e)))
+  module _ (s : State) (heading : Heading) (is : heading ≡ headingOf sheet) (ended : SheetSays true trip sheet (Walked.Reached s)) where
+    pub audited-false : falseFigures heading s ≡ true → refusedAt 18 (heading .moves + 1) ≡ auditedRun trip sheet
+    audited-false e = rw is (sym (header-false (trip .order) sheet _ timed s (ended .1) (ended .2) (rw is at e)))
 
-    pub audited-true : falseFigures heading s ≡ false → succeeded (heading .moves) (s .clock .0) ≡ auditedRun map order sheet
+    pub audited-true : falseFigures heading s ≡ false → succeeded (heading .moves) (s .clock .0) ≡ auditedRun trip sheet
     audited-true e =
-        rw (is, ← arrival-reached timed s (ended .2)) (sym (header-true order sheet _ timed s (ended .1) (ended .2) (rw is at e)))
+        rw (is, ← arrival-reached timed s (ended .2)) (sym (header-true (trip .order) sheet _ timed s (ended .1) (ended .2) (rw is at e)))

@@ -12,8 +12,8 @@ use Rattle.replies.specs.declared.Timing.{Timing}
 use Rattle.replies.specs.First.{_at_, firstOf, NoneFits, Refuses}
 use Rattle.replies.specs.Told.{succeeded, toldRefusal, toldTiming}
 use Rattle.replies.proofs.First.{none-fits, stops-at, passed-over, refusal-number}
-use Rattle.driving.specs.declared.Order.{Order}
 use Rattle.driving.specs.Order.{orderOf}
+use Rattle.moves.specs.Trip.{Trip, tripOf}
 use Rattle.moves.specs.RunTests.{runTests}
 use Rattle.states.specs.declared.State.{State}
 use Rattle.sheets.specs.declared.Heading.{Heading}
@@ -32,22 +32,22 @@ use Rattle.retiming.proofs.Rewriting.{reached-is, walk-length}
 abbrev pub retimedHeading : Heading → State → Heading
 retimedHeading given s = headingFor (given .moves) s (given .labels)
 
-module _ (map : List ℕ) (order : Order) (sheet before : List ℕ) where
+module _ (trip : Trip) (sheet before : List ℕ) where
   abbrev timed : Walk
-  timed = timing false map order sheet
+  timed = timing false trip sheet
 
-  pub retimed-refused : (why : Refusal) → SheetSays order sheet timed (Walked.Refused why) → RetimedRun map order sheet before before (Timing.Refused why)
+  pub retimed-refused : (why : Refusal) → SheetSays false trip sheet (Walked.Refused why) → RetimedRun trip sheet before before (Timing.Refused why)
   retimed-refused why says =
       record { reply = sym (says _ _); bytes = rw (ne-eqb (toldRefusal why .number) 0 (λ e. omega (arith, refusal-number why))) refl }
 
-  module _ (s : State) (ended : SheetSays order sheet timed (Walked.Reached s)) (given : Heading) (is : given ≡ headingOf sheet) (needed : ℕ) (counts : needed ≡ sheetNeeded (given .moves)) where
-    pub retimed-short : length before < needed → RetimedRun map order sheet before before (Timing.Refused (ShortSheet needed))
+  module _ (s : State) (ended : SheetSays false trip sheet (Walked.Reached s)) (given : Heading) (is : given ≡ headingOf sheet) (needed : ℕ) (counts : needed ≡ sheetNeeded (given .moves)) where
+    pub retimed-short : length before < needed → RetimedRun trip sheet before before (Timing.Refused (ShortSheet needed))
     retimed-short short =
         let needs : length before < sheetNeeded (movesOn sheet) = rw (counts, is) at short in
         record {
           reply = rw (counts, is)
               (sym
-              (none-fits (sheetTests order sheet timed) _ _ (ended .1)
+              (none-fits (sheetTests (trip .order) sheet timed) _ _ (ended .1)
               ∙ stops-at (14 at shortSheet (movesOn sheet) (length before)) [] _ (rw (lt-ltb _ _ needs))));
           bytes = refl;
         }
@@ -59,14 +59,14 @@ module _ (map : List ℕ) (order : Order) (sheet before : List ℕ) where
 
     pub retimed-written : needed ≤ length before → (after : List ℕ) →
         after ≡ withHeading (rowsPut 0 (rowsReached timed) before) (retimedHeading given s) →
-        RetimedRun map order sheet before after (Timing.Timed (given .moves) (s .clock))
+        RetimedRun trip sheet before after (Timing.Timed (given .moves) (s .clock))
     unfolding firstOf
     retimed-written fits after written =
         let enough : sheetNeeded (movesOn sheet) ≤ length before = rw (counts, is) at fits in
         record {
           reply = rw (is, ← arrival-reached timed s (ended .2))
               (sym
-              (none-fits (sheetTests order sheet timed) ((14 at shortSheet (movesOn sheet) (length before)) ∷ []) (succeeded (movesOn sheet) (arrivalReached timed)) (ended .1)
+              (none-fits (sheetTests (trip .order) sheet timed) ((14 at shortSheet (movesOn sheet) (length before)) ∷ []) (succeeded (movesOn sheet) (arrivalReached timed)) (ended .1)
               ∙ passed-over (14 at shortSheet (movesOn sheet) (length before)) [] (succeeded (movesOn sheet) (arrivalReached timed)) (rw (le-ltb _ _ enough))));
           bytes = written
               ∙ heading-last (retimedHeading given s) (rowsReached timed) before (rw count enough)
@@ -74,7 +74,7 @@ module _ (map : List ℕ) (order : Order) (sheet before : List ℕ) where
               ∙ ap (λ (w : Walk). retimedTo (headingOf sheet) w before) (sym (reached-is timed s (ended .2)));
         }
 
--- and of an order that is not decoded yet
+-- and from the bytes of map and order
 module _ (map order sheet before : List ℕ) where
   pub retimed-unopened : (why : Refusal) → Refuses (runTests map order) why → Retimed map order sheet before before (Timing.Refused why)
   retimed-unopened why says =
@@ -84,9 +84,10 @@ module _ (map order sheet before : List ℕ) where
         bytes = rw (told, ne-eqb (toldRefusal why .number) 0 (λ e. omega (arith, refusal-number why))) refl;
       }
 
-  pub retimed-opened : (decoded : Order) (after : List ℕ) (answer : Timing) → decoded ≡ orderOf order → NoneFits (runTests map order) →
-      RetimedRun map decoded sheet before after answer → Retimed map order sheet before after answer
-  retimed-opened decoded after answer is passed run =
-      let opened : RetimedRun map (orderOf order) sheet before after answer = subst (λ (o : Order). RetimedRun map o sheet before after answer) is run in
+  pub retimed-opened : {trip : Trip} {after : List ℕ} {answer : Timing} → trip ≡ tripOf map (orderOf order) → NoneFits (runTests map order) →
+      RetimedRun trip sheet before after answer → Retimed map order sheet before after answer
+  unfolding tripOf
+  retimed-opened {after = after} {answer = answer} is passed run =
+      let opened = subst (λ (t : Trip). RetimedRun t sheet before after answer) is run in
       let told : toldTiming answer ≡ retimingReply map order sheet before = opened .reply ∙ sym (none-fits (runTests map order) _ _ passed) in
       record { reply = told; bytes = opened .bytes ∙ rw told refl }

@@ -7,13 +7,11 @@ use native.Mathlib.Omega.{arith}
 use lib.ListN.{length, take, drop, length-take}
 use lib.Seq.{length-take-le}
 use Rattle.replies.specs.declared.Refusal.{Refusal}
-use Rattle.moves.specs.declared.Run.{Run}
 use Rattle.states.specs.declared.State.{State}
-use Rattle.moves.specs.Trip.{Trip}
+use Rattle.moves.specs.Trip.{Trip, junctionsIn}
 use Rattle.states.specs.States.{startOf}
-use Rattle.moves.specs.Runs.{Accepted, Unstruck, tripIn, RangeIn}
-use Rattle.moves.proofs.Trips.{run-tied, unstruck-trip}
-use Rattle.moves.proofs.Rising.{run-sound, run-starts}
+use Rattle.moves.specs.Runs.{SoundTrip, RangeIn}
+use Rattle.moves.proofs.Rising.{start-range}
 use Rattle.sheets.specs.declared.Row.{Row}
 use Rattle.sheets.specs.Sheet.{rowAt, rowsOf, sheetNeeded, withRow}
 use Rattle.sheets.specs.Written.{rowsPut}
@@ -89,46 +87,42 @@ walk-length clocks trip k s (row ∷ rs) {l} {ys} e = by (one-row clocks trip k 
         let rest = cut (trueRow row t) (walk clocks trip (k + 1) t rs) l ys (sym (always rs) ∙ e) in
         ap length (rest .is) ∙ ap suc (go t (rest .zs) (rest .rest))
 
-module _ (map : List ℕ) (run : Run) (sheet : List ℕ) (moves : ℕ) (last : State) (rows : List Row) (before : List ℕ) where
-  abbrev walkFrom : ℕ → State → ℕ → Walk
-  walkFrom k s n = walk false (tripIn map run) k s (rowsOf sheet k n)
+pub record Rewriting (trip : Trip) (sheet : List ℕ) (moves : ℕ) (last : State) (rows : List Row) (before : List ℕ) (k : ℕ) (s : State) (out : List ℕ) : Type 0 where
+  pub low : 1 ≤ k
+  pub high : k ≤ moves + 1
+  pub range : RangeIn trip s
+  -- the rest of the walk gives the rest of the records
+  pub left : walk false trip k s (rowsOf sheet k (moves + 1 - k)) ≡ reached last (drop (k - 1) rows)
+  -- and those before it are written
+  pub done : out ≡ rowsPut 0 (take (k - 1) rows) before
 
-  pub record Rewriting (k : ℕ) (s : State) (out : List ℕ) : Type 0 where
-    pub low : 1 ≤ k
-    pub high : k ≤ moves + 1
-    pub range : RangeIn (tripIn map run) s
-    -- the rest of the walk gives the rest of the records
-    pub left : walkFrom k s (moves + 1 - k) ≡ reached last (drop (k - 1) rows)
-    -- and those before it are written
-    pub done : out ≡ rowsPut 0 (take (k - 1) rows) before
-
-  pub rewriting-start : Unstruck map run → moves ≡ movesOn sheet → timing false map (run .order) sheet ≡ reached last rows → Rewriting 1 (startOf (run .order)) before
+module _ {trip : Trip} {sheet : List ℕ} {moves : ℕ} {last : State} {rows : List Row} {before : List ℕ} where
+  pub rewriting-start : SoundTrip trip → moves ≡ movesOn sheet → timing false trip sheet ≡ reached last rows → {s : State} → s ≡ startOf (trip .order) → Rewriting trip sheet moves last rows before 1 s before
   unfolding timing
-  rewriting-start opened is timed =
+  rewriting-start sound is timed starts =
       let all : moves + 1 - 1 ≡ movesOn sheet = omega arith in
-      record {
+      rw starts
+      (record {
         low = omega arith;
         high = omega arith;
-        range = run-starts (run-tied map run) (run-sound map run (opened .accepted));
-        left = ap (walkFrom 1 (startOf (run .order))) all
-            ∙ ap (λ (t : Trip). walk false t 1 (startOf (run .order)) (rowsOf sheet 1 (movesOn sheet))) (unstruck-trip opened)
-            ∙ timed;
+        range = start-range (junctionsIn trip) (trip .order) (sound .ordered);
+        left = ap (λ (n : ℕ). walk false trip 1 (startOf (trip .order)) (rowsOf sheet 1 n)) all ∙ timed;
         done = sym (none-from 0 before);
-      }
+      })
 
-  module _ (k : ℕ) (s : State) (out : List ℕ) (on : Rewriting k s out) where
-    these : k ≤ moves → walkFrom k s (moves + 1 - k) ≡ walk false (tripIn map run) k s (rowAt sheet k ∷ rowsOf sheet (k + 1) (moves + 1 - (k + 1)))
+  module _ {k : ℕ} {s : State} {out : List ℕ} (on : Rewriting trip sheet moves last rows before k s out) where
+    these : k ≤ moves → walk false trip k s (rowsOf sheet k (moves + 1 - k)) ≡ walk false trip k s (rowAt sheet k ∷ rowsOf sheet (k + 1) (moves + 1 - (k + 1)))
     these more =
-        ap (walk false (tripIn map run) k s)
+        ap (walk false trip k s)
         (rows-next sheet k (moves + 1 - k) (omega arith) ∙ ap (λ (n : ℕ). rowAt sheet k ∷ rowsOf sheet (k + 1) n) (less k more))
       where
         less : (k : ℕ) → k ≤ moves → moves + 1 - k - 1 ≡ moves + 1 - (k + 1)
         less k more = omega arith
 
-    pub never-refused : k ≤ moves → (why : Refusal) → WalkSays (walk false (tripIn map run) k s (rowAt sheet k ∷ [])) (Walked.Refused why) → ⊥
+    pub never-refused : k ≤ moves → (why : Refusal) → WalkSays (walk false trip k s (rowAt sheet k ∷ [])) (Walked.Refused why) → ⊥
     never-refused more why h =
         not-refused why (sym (these more) ∙ on .left)
-        (says-refused false (tripIn map run) k s (rowAt sheet k) (rowsOf sheet (k + 1) (moves + 1 - (k + 1))) why h)
+        (says-refused false trip k s (rowAt sheet k) (rowsOf sheet (k + 1) (moves + 1 - (k + 1))) why h)
 
     -- all are written where all have been walked over
     pub rewriting-end : moves < k → out ≡ rowsPut 0 rows before
@@ -136,25 +130,25 @@ module _ (map : List ℕ) (run : Run) (sheet : List ℕ) (moves : ℕ) (last : S
     rewriting-end past =
         let none-left : moves + 1 - k ≡ 0 = omega arith in
         let ended : reached s [] ≡ reached last (drop (k - 1) rows) =
-        sym (ap (walkFrom k s) none-left ∙ walk-end false (tripIn map run) k s) ∙ on .left in
+        sym (ap (λ (n : ℕ). walk false trip k s (rowsOf sheet k n)) none-left ∙ walk-end false trip k s) ∙ on .left in
         on .done ∙ ap (λ (l : List Row). rowsPut 0 l before) (take-all (k - 1) rows (sym (cc ended)))
 
     -- the sheet keeps its length
     pub rewriting-length : sheetNeeded moves ≤ length before → length out ≡ length before
     rewriting-length fits = ap length (on .done) ∙ length-from 0 (take (k - 1) rows) before (omega (arith, length-take (k - 1) rows, on .high))
 
-    pub rewriting-next : Accepted map run → k ≤ moves → sheetNeeded moves ≤ length before → (t : State) → WalkSays (walk false (tripIn map run) k s (rowAt sheet k ∷ [])) (Walked.Reached t) →
-        Rewriting (k + 1) t (withRow out k (trueRow (rowAt sheet k) t))
-    rewriting-next accepted more fits t h =
-        let handed = handed-on false (tripIn map run) k s (rowAt sheet k) t h in
-        let rest = cut (trueRow (rowAt sheet k) t) (walkFrom (k + 1) t (moves + 1 - (k + 1))) last (drop (k - 1) rows)
+    pub rewriting-next : SoundTrip trip → k ≤ moves → sheetNeeded moves ≤ length before → (t : State) → WalkSays (walk false trip k s (rowAt sheet k ∷ [])) (Walked.Reached t) →
+        Rewriting trip sheet moves last rows before (k + 1) t (withRow out k (trueRow (rowAt sheet k) t))
+    rewriting-next sound more fits t h =
+        let handed = handed-on false trip k s (rowAt sheet k) t h in
+        let rest = cut (trueRow (rowAt sheet k) t) (walk false trip (k + 1) t (rowsOf sheet (k + 1) (moves + 1 - (k + 1)))) last (drop (k - 1) rows)
         (sym (handed .always (rowsOf sheet (k + 1) (moves + 1 - (k + 1)))) ∙ sym (these more) ∙ on .left) in
         let within = drop-within (k - 1) rows (rest .zs) (rest .is) in
         let next : k + 1 - 1 ≡ suc (k - 1) = omega (arith, on .low) in
         record {
           low = omega arith;
           high = omega arith;
-          range = range-moved (tripIn map run) (run-sound map run accepted) s (moveOf (rowAt sheet k)) t (on .range) (handed .moved);
+          range = range-moved trip sound s (moveOf (rowAt sheet k)) t (on .range) (handed .moved);
           left = rest .rest ∙ ap (reached last) (sym (ap (λ (i : ℕ). drop i rows) next ∙ drop-more (k - 1) rows (rest .zs) (rest .is)));
           done = ap (λ (l : List ℕ). withRow l k (trueRow (rowAt sheet k) t)) (on .done)
               ∙ row-behind 0 (take (k - 1) rows) before k (trueRow (rowAt sheet k) t) (omega (arith, length-take-le (k - 1) rows (omega (arith, within)), on .low)) (omega arith)

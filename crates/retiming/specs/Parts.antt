@@ -11,11 +11,11 @@ use Rattle.replies.specs.declared.Timing.{Timing}
 use Rattle.replies.specs.First.{_at_, firstOf, NoneFits, Refuses}
 use Rattle.replies.specs.Told.{refusedAt, succeeded, toldRefusal, toldTiming}
 use Rattle.booleans.specs.Pick.{pick}
-use Rattle.driving.specs.declared.Order.{Order}
 use Rattle.sheets.specs.declared.Row.{Row}
 use Rattle.sheets.specs.Sheet.{headingOf, shortSheet}
 use Rattle.sheets.specs.Written.{Whole}
 use Rattle.states.specs.declared.State.{State}
+use Rattle.moves.specs.Trip.{Trip}
 use Rattle.retiming.specs.declared.Walked.{Walked}
 use Rattle.retiming.specs.Walk.{Walk, refused, reached, arrivalReached}
 use Rattle.retiming.specs.Retiming.{movesOn, timing, sheetTests, falseHeader, retimedTo}
@@ -32,15 +32,16 @@ WalkSays (reached t rows) (Walked.Refused why) = ⊥
 WalkSays (reached t rows) (Walked.Reached s) = s ≡ t
 
 -- 15 to 17 (18) and 19: the refusal, or the state reached
-abbrev pub SheetSays : Order → List ℕ → Walk → Walked → Type 0
-SheetSays order sheet timed (Walked.Refused why) = Refuses (sheetTests order sheet timed) why
-SheetSays order sheet timed (Walked.Reached s) = Whole sheet × NoneFits (sheetTests order sheet timed) × WalkSays timed (Walked.Reached s)
+abbrev pub SheetSays : Bool → Trip → List ℕ → Walked → Type 0
+SheetSays clocks trip sheet (Walked.Refused why) = Refuses (sheetTests (trip .order) sheet (timing clocks trip sheet)) why
+SheetSays clocks trip sheet (Walked.Reached s) =
+    Whole sheet × NoneFits (sheetTests (trip .order) sheet (timing clocks trip sheet)) × WalkSays (timing clocks trip sheet) (Walked.Reached s)
 
 -- audit's reply, once a run is opened
-abbrev pub auditedRun : List ℕ → Order → List ℕ → Reply
-auditedRun map order sheet =
-    firstOf (sheetTests order sheet (timing true map order sheet) ++ ((18 at falseHeader (headingOf sheet) (timing true map order sheet)) ∷ []))
-    (succeeded (movesOn sheet) (arrivalReached (timing true map order sheet)))
+abbrev pub auditedRun : Trip → List ℕ → Reply
+auditedRun trip sheet =
+    firstOf (sheetTests (trip .order) sheet (timing true trip sheet) ++ ((18 at falseHeader (headingOf sheet) (timing true trip sheet)) ∷ []))
+    (succeeded (movesOn sheet) (arrivalReached (timing true trip sheet)))
 
 -- no refusal met the walk
 abbrev pub Ends : Walk → Type 0
@@ -57,12 +58,12 @@ rowsReached (refused number move) = []
 rowsReached (reached s rows) = rows
 
 -- retiming's reply, once a run is opened
-abbrev pub retimedRun : List ℕ → Order → List ℕ → List ℕ → Reply
-retimedRun map order sheet before =
-    firstOf (sheetTests order sheet (timing false map order sheet) ++ ((14 at shortSheet (movesOn sheet) (length before)) ∷ []))
-    (succeeded (movesOn sheet) (arrivalReached (timing false map order sheet)))
+abbrev pub retimedRun : Trip → List ℕ → List ℕ → Reply
+retimedRun trip sheet before =
+    firstOf (sheetTests (trip .order) sheet (timing false trip sheet) ++ ((14 at shortSheet (movesOn sheet) (length before)) ∷ []))
+    (succeeded (movesOn sheet) (arrivalReached (timing false trip sheet)))
 
 -- the answer and the other sheet afterwards, once a run is opened
-pub record RetimedRun (map : List ℕ) (order : Order) (sheet before after : List ℕ) (answer : Timing) : Type 0 where
-  pub reply : toldTiming answer ≡ retimedRun map order sheet before
-  pub bytes : after ≡ pick (eqb (toldTiming answer .number) 0) (retimedTo (headingOf sheet) (timing false map order sheet) before) before
+pub record RetimedRun (trip : Trip) (sheet before after : List ℕ) (answer : Timing) : Type 0 where
+  pub reply : toldTiming answer ≡ retimedRun trip sheet before
+  pub bytes : after ≡ pick (eqb (toldTiming answer .number) 0) (retimedTo (headingOf sheet) (timing false trip sheet) before) before

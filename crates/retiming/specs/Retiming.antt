@@ -14,7 +14,7 @@ use Rattle.booleans.specs.Pick.{pick}
 use Rattle.driving.specs.declared.Order.{Order}
 use Rattle.driving.specs.Order.{orderOf}
 use Rattle.states.specs.declared.State.{State}
-use Rattle.moves.specs.Trip.{tripOf}
+use Rattle.moves.specs.Trip.{Trip, tripOf}
 use Rattle.states.specs.States.{startOf}
 use Rattle.moves.specs.RunTests.{runTests}
 use Rattle.sheets.specs.declared.Heading.{Heading}
@@ -24,10 +24,9 @@ use Rattle.retiming.specs.Walk.{Walk, refused, reached, walk, moveTest, 
 abbrev pub movesOn : List ℕ → ℕ
 movesOn sheet = headingOf sheet .moves
 
--- the sheet's moves, from the start that the order gives
-unfoldable pub timing : Bool → List ℕ → Order → List ℕ → Walk
-timing clocks map order sheet =
-    walk clocks (tripOf map order) 1 (startOf order) (rowsOf sheet 1 (movesOn sheet))
+-- the sheet's moves, from the start that the trip's order gives
+unfoldable pub timing : Bool → Trip → List ℕ → Walk
+timing clocks trip sheet = walk clocks trip 1 (startOf (trip .order)) (rowsOf sheet 1 (movesOn sheet))
 
 -- 15, then 16 and 17 move by move (with 18, where clocks are compared), 19
 abbrev pub sheetTests : Order → List ℕ → Walk → List Test
@@ -42,8 +41,8 @@ retimingTests map order sheet out timed =
 
 abbrev pub retimingReply : List ℕ → List ℕ → List ℕ → List ℕ → Reply
 retimingReply map order sheet out =
-    firstOf (retimingTests map order sheet out (timing false map (orderOf order) sheet))
-    (succeeded (movesOn sheet) (arrivalReached (timing false map (orderOf order) sheet)))
+    firstOf (retimingTests map order sheet out (timing false (tripOf map (orderOf order)) sheet))
+    (succeeded (movesOn sheet) (arrivalReached (timing false (tripOf map (orderOf order)) sheet)))
 
 -- the same moves with true figures, N copied
 abbrev pub retimedTo : Heading → Walk → List ℕ → List ℕ
@@ -54,7 +53,7 @@ retimedTo heading (reached s rows) out = sheetAfter (headingFor (heading .moves)
 abbrev pub retimedSheet : List ℕ → List ℕ → List ℕ → List ℕ → List ℕ
 retimedSheet map order sheet out =
     pick (eqb (retimingReply map order sheet out .number) 0)
-    (retimedTo (headingOf sheet) (timing false map (orderOf order) sheet) out)
+    (retimedTo (headingOf sheet) (timing false (tripOf map (orderOf order)) sheet) out)
     out
 
 -- what retiming owes: its answer, and every byte of the other sheet
@@ -81,5 +80,5 @@ auditTests map order sheet timed =
 
 abbrev pub auditReply : List ℕ → List ℕ → List ℕ → Reply
 auditReply map order sheet =
-    firstOf (auditTests map order sheet (timing true map (orderOf order) sheet))
-    (succeeded (movesOn sheet) (arrivalReached (timing true map (orderOf order) sheet)))
+    firstOf (auditTests map order sheet (timing true (tripOf map (orderOf order)) sheet))
+    (succeeded (movesOn sheet) (arrivalReached (timing true (tripOf map (orderOf order)) sheet)))

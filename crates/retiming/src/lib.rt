@@ -5,7 +5,7 @@ ghost use mathlib.Core.List.{[], _∷_};
 ghost use Prim.Native.Nat.{_+_, _≤_, _<_};
 ghost use lib.ListN.{length};
 ghost use Rattle.replies.specs.Told.{toldTiming};
-ghost use Rattle.moves.specs.Runs.{Accepted, Unstruck, tripIn, RangeIn};
+ghost use Rattle.moves.specs.Runs.{Accepted, tripIn, RangeIn};
 ghost use Rattle.sheets.specs.Sheet.{sheetNeeded};
 ghost use Rattle.sheets.specs.Written.{Whole, rowsPut};
 ghost use Rattle.retiming.specs.Walk.{walk};
@@ -61,9 +61,9 @@ fn walk_row(map: &[u8], run: Run, state: State, row: Row, k: usize, clocks: bool
 
 // The walk over all records of a whole sheet.
 fn walk_sheet(map: &[u8], run: Run, sheet: &[u8], clocks: bool) -> Walked
-    requires { ⌜ Unstruck (now map) run ⌝ }
+    requires { ⌜ Accepted (now map) run ⌝ }
     requires { ⌜ Whole (now sheet) ⌝ }
-    ensures { λ r. ⌜ WalkSays (timing clocks (now (map .entry)) (run .order) (now (sheet .entry))) r ⌝ }
+    ensures { λ r. ⌜ WalkSays (timing clocks (tripIn (now (map .entry)) run) (now (sheet .entry))) r ⌝ }
 {
     let order = run.order;
     let moves = words::word(sheet, 0) as usize;
@@ -85,8 +85,8 @@ fn walk_sheet(map: &[u8], run: Run, sheet: &[u8], clocks: bool) -> Walked
 
 // Refusals 15 to 19: the walk over a sheet that may be torn, to its end at target.
 fn judge_sheet(map: &[u8], run: Run, sheet: &[u8], clocks: bool) -> Walked
-    requires { ⌜ Unstruck (now map) run ⌝ }
-    ensures { λ r. ⌜ SheetSays (run .order) (now (sheet .entry)) (timing clocks (now (map .entry)) (run .order) (now (sheet .entry))) r ⌝ }
+    requires { ⌜ Accepted (now map) run ⌝ }
+    ensures { λ r. ⌜ SheetSays clocks (tripIn (now (map .entry)) run) (now (sheet .entry)) r ⌝ }
 {
     if sheets::is_torn(sheet) {
         return Walked::Refused(Refusal::TornSheet(sheet.len()));
@@ -119,8 +119,8 @@ fn header_is_false(heading: Heading, state: State) -> bool
 }
 
 fn audit_run(map: &[u8], run: Run, sheet: &[u8]) -> Timing
-    requires { ⌜ Unstruck (now map) run ⌝ }
-    ensures { λ r. ⌜ toldTiming r ≡ auditedRun (now (map .entry)) (run .order) (now (sheet .entry)) ⌝ }
+    requires { ⌜ Accepted (now map) run ⌝ }
+    ensures { λ r. ⌜ toldTiming r ≡ auditedRun (tripIn (now (map .entry)) run) (now (sheet .entry)) ⌝ }
 {
     let judged = judge_sheet(map, run, sheet, true);
     match judged {
@@ -152,11 +152,11 @@ pub fn audit(map: &[u8], order: &[u8], sheet: &[u8]) -> Timing
 
 // Writes each record with its true clock, from the first on: the walk is known to reach its end.
 fn write_rows(map: &[u8], run: Run, sheet: &[u8], out: &mut [u8])
-    requires { ⌜ Unstruck (now map) run ⌝ }
+    requires { ⌜ Accepted (now map) run ⌝ }
     requires { ⌜ Whole (now sheet) ⌝ }
-    requires { ⌜ Ends (timing false (now map) (run .order) (now sheet)) ⌝ }
+    requires { ⌜ Ends (timing false (tripIn (now map) run) (now sheet)) ⌝ }
     requires { ⌜ sheetNeeded (movesOn (now sheet)) ≤ length (now out) ⌝ }
-    ensures { λ _. ⌜ now (out .exit) ≡ rowsPut 0 (rowsReached (timing false (now (map .entry)) (run .order) (now (sheet .entry)))) (now (out .entry)) ⌝ }
+    ensures { λ _. ⌜ now (out .exit) ≡ rowsPut 0 (rowsReached (timing false (tripIn (now (map .entry)) run) (now (sheet .entry)))) (now (out .entry)) ⌝ }
 {
     let order = run.order;
     let moves = words::word(sheet, 0) as usize;
@@ -183,8 +183,8 @@ fn write_rows(map: &[u8], run: Run, sheet: &[u8], out: &mut [u8])
 }
 
 fn retime_run(map: &[u8], run: Run, sheet: &[u8], out: &mut [u8]) -> Timing
-    requires { ⌜ Unstruck (now map) run ⌝ }
-    ensures { λ r. ⌜ RetimedRun (now (map .entry)) (run .order) (now (sheet .entry)) (now (out .entry)) (now (out .exit)) r ⌝ }
+    requires { ⌜ Accepted (now map) run ⌝ }
+    ensures { λ r. ⌜ RetimedRun (tripIn (now (map .entry)) run) (now (sheet .entry)) (now (out .entry)) (now (out .exit)) r ⌝ }
 {
     let judged = judge_sheet(map, run, sheet, false);
     match judged {

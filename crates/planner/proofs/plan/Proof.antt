@@ -1,6 +1,5 @@
-use mathlib.Core.Path.{_∙_, ap, subst}
+use mathlib.Core.Path.{subst}
 use borrow.Author.Needs.{needs}
-use Rattle.moves.specs.Trip.{tripOf}
 use Rattle.moves.specs.Opened.{OpenedSays}
 use Rattle.moves.proofs.Trips.{unstruck-trip}
 use Rattle.planner.proofs.Opening.{run-refused, run-planned}
@@ -21,7 +20,7 @@ returns-2 : tie.Need-returns-2
 returns-2 c =
     let a = c .before .before .before .before .before .before .before .before .before .before .before .before .before .before .before .args in
     let ready = subst (OpenedSays (a .map .now) (a .order .now)) (c .before .before .before .before .before .before .before .before .opened2 .given .1) (c .before .before .before .before .before .before .before .before .before .before .open-run .ensures) in
-    run-planned (a .map .now) (a .order .now) (a .words .now) (a .sheet .now) (unstruck-trip (ready .0) ∙ ap (tripOf (a .map .now)) (ready .1)) (ready .2) (c .before .before .before .before .plan-run .ensures)
+    run-planned (a .map .now) (a .order .now) (a .words .now) (a .sheet .now) (unstruck-trip (ready .0) (ready .1)) (ready .2) (c .before .before .before .before .plan-run .ensures)
 
 pub plan-spec : {M : Type 1} → statement M
 plan-spec =

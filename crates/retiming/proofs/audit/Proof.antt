@@ -1,10 +1,10 @@
 use borrow.Author.Needs.{needs}
-use mathlib.Core.Path.{_≡_, _∙_, sym, subst}
-use Rattle.replies.specs.Told.{toldTiming}
+use mathlib.Core.Path.{_∙_, sym, ap, subst}
 use Rattle.replies.proofs.First.{none-fits}
-use Rattle.driving.specs.declared.Order.{Order}
+use Rattle.moves.specs.Trip.{Trip, tripOf}
 use Rattle.moves.specs.RunTests.{runTests}
 use Rattle.moves.specs.Opened.{OpenedSays}
+use Rattle.moves.proofs.Trips.{unstruck-trip}
 use Rattle.retiming.specs.Parts.{auditedRun}
 use Rattle.retiming.proofs.audit.Statement.{statement}
 use Rattle.retiming.proofs.audit.Tie as tie
@@ -13,7 +13,7 @@ audit-run-requires : tie.Need-audit-run-requires
 audit-run-requires c κs =
     let opened = c .before .before .before in
     let args = opened .before .before .before .before .args in
-    subst (OpenedSays (args .map .now) (args .order .now)) (c .before .opened2 .given .1) (opened .open-run .ensures) .0
+    subst (OpenedSays (args .map .now) (args .order .now)) (c .before .opened2 .given .1) (opened .open-run .ensures) .0 .accepted
 
 returns : tie.Need-returns
 returns c =
@@ -22,12 +22,14 @@ returns c =
     sym (subst (OpenedSays (args .map .now) (args .order .now)) (c .before .opened .given .1) (opened .open-run .ensures) _ _)
 
 returns-2 : tie.Need-returns-2
+unfolding tripOf
 returns-2 c =
     let told = c .before in
     let opened = told .before .before .before in
     let args = opened .before .before .before .before .args in
     let ready = subst (OpenedSays (args .map .now) (args .order .now)) (told .before .opened2 .given .1) (opened .open-run .ensures) in
-    subst (λ (o : Order). toldTiming (c .audit-run .result) ≡ auditedRun (args .map .now) o (args .sheet .now)) (ready .1) (c .audit-run .ensures)
+    c .audit-run .ensures
+    ∙ ap (λ (t : Trip). auditedRun t (args .sheet .now)) (unstruck-trip (ready .0) (ready .1))
     ∙ sym (none-fits (runTests (args .map .now) (args .order .now)) _ _ (ready .2))
 
 pub audit-spec : {M : Type 1} → statement M

@@ -2,11 +2,9 @@ use borrow.Author.Needs.{needs}
 use mathlib.Core.Path.{_∙_, sym, subst}
 use mathlib.Core.Bool.{true}
 use native.Mathlib.Omega.{arith}
-use Rattle.replies.specs.First.{_at_}
+use Rattle.moves.specs.Runs.{tripIn}
 use Rattle.retiming.specs.declared.Walked.{Walked}
-use Rattle.retiming.specs.Retiming.{timing}
 use Rattle.retiming.specs.Parts.{SheetSays}
-use mathlib.Core.Bool.{true}
 use Rattle.retiming.proofs.Judging.{audited-refused, audited-false, audited-true}
 use Rattle.retiming.proofs.audit_run.Statement.{statement}
 use Rattle.retiming.proofs.audit_run.Tie as tie
@@ -14,11 +12,11 @@ use Rattle.retiming.proofs.audit_run.Tie as tie
 -- the walk was whole and ended at target
 ended : (c : tie.After-known-told2) →
     let args = c .before .before .before .before .before .before .args in
-    SheetSays (args .run .order) (args .sheet .now) (timing true (args .map .now) (args .run .order) (args .sheet .now)) (Walked.Reached (c .before .judged2 .given .0 .0))
+    SheetSays true (tripIn (args .map .now) (args .run)) (args .sheet .now) (Walked.Reached (c .before .judged2 .given .0 .0))
 ended c =
     let judged = c .before .before .before in
     let args = judged .before .before .before .args in
-    subst (SheetSays (args .run .order) (args .sheet .now) (timing true (args .map .now) (args .run .order) (args .sheet .now))) (c .before .judged2 .given .1) (judged .judge-sheet .ensures)
+    subst (SheetSays true (tripIn (args .map .now) (args .run)) (args .sheet .now)) (c .before .judged2 .given .1) (judged .judge-sheet .ensures)
 
 read-heading-requires : tie.Need-read-heading-requires
 read-heading-requires c κs = omega (arith, ended c .0)
@@ -29,14 +27,14 @@ returns c =
     let read = told .before in
     let reached = read .before in
     let args = reached .before .before .before .before .before .before .args in
-    audited-false (args .map .now) (args .run .order) (args .sheet .now) (reached .before .judged2 .given .0 .0) (read .read-heading .result) (read .read-heading .ensures) (ended reached) (sym (told .header-is-false .ensures) ∙ c .before .if1 .taken)
+    audited-false (tripIn (args .map .now) (args .run)) (args .sheet .now) (reached .before .judged2 .given .0 .0) (read .read-heading .result) (read .read-heading .ensures) (ended reached) (sym (told .header-is-false .ensures) ∙ c .before .if1 .taken)
 
 returns-2 : tie.Need-returns-2
 returns-2 c =
     let judged = c .before .before .before in
     let args = judged .before .before .before .args in
-    audited-refused (args .map .now) (args .run .order) (args .sheet .now) (c .before .judged .given .0 .0)
-    (subst (SheetSays (args .run .order) (args .sheet .now) (timing true (args .map .now) (args .run .order) (args .sheet .now))) (c .before .judged .given .1) (judged .judge-sheet .ensures))
+    audited-refused (tripIn (args .map .now) (args .run)) (args .sheet .now) (c .before .judged .given .0 .0)
+    (subst (SheetSays true (tripIn (args .map .now) (args .run)) (args .sheet .now)) (c .before .judged .given .1) (judged .judge-sheet .ensures))
 
 returns-3 : tie.Need-returns-3
 returns-3 c =
@@ -44,7 +42,7 @@ returns-3 c =
     let read = told .before in
     let reached = read .before in
     let args = reached .before .before .before .before .before .before .args in
-    audited-true (args .map .now) (args .run .order) (args .sheet .now) (reached .before .judged2 .given .0 .0) (read .read-heading .result) (read .read-heading .ensures) (ended reached) (sym (told .header-is-false .ensures) ∙ c .before .if1 .left)
+    audited-true (tripIn (args .map .now) (args .run)) (args .sheet .now) (reached .before .judged2 .given .0 .0) (read .read-heading .result) (read .read-heading .ensures) (ended reached) (sym (told .header-is-false .ensures) ∙ c .before .if1 .left)
 
 pub audit-run-spec : {M : Type 1} → statement M
 audit-run-spec =

@@ -1,6 +1,7 @@
 use borrow.Author.Needs.{needs}
 use mathlib.Core.Path.{subst}
 use Rattle.moves.specs.Opened.{OpenedSays}
+use Rattle.moves.proofs.Trips.{unstruck-trip}
 use Rattle.retiming.proofs.Retimes.{retimed-unopened, retimed-opened}
 use Rattle.retiming.proofs.retime.Statement.{statement}
 use Rattle.retiming.proofs.retime.Tie as tie
@@ -10,7 +11,7 @@ retime-run-requires c κs =
     let told = c .before in
     let opened = told .before .before .before in
     let args = opened .before .before .before .before .before .args in
-    subst (OpenedSays (args .map .now) (args .order .now)) (told .before .opened2 .given .1) (opened .open-run .ensures) .0
+    subst (OpenedSays (args .map .now) (args .order .now)) (told .before .opened2 .given .1) (opened .open-run .ensures) .0 .accepted
 
 returns : tie.Need-returns
 returns c =
@@ -26,7 +27,7 @@ returns-2 c =
     let opened = told .before .before .before in
     let args = opened .before .before .before .before .before .args in
     let ready = subst (OpenedSays (args .map .now) (args .order .now)) (told .before .opened2 .given .1) (opened .open-run .ensures) in
-    retimed-opened (args .map .now) (args .order .now) (args .sheet .now) (args .out .now) (told .before .opened2 .given .0 .0 .order) (ran .retime-run .last .1 .1 .1 .0) (ran .retime-run .result) (ready .1) (ready .2) (ran .retime-run .ensures)
+    retimed-opened (args .map .now) (args .order .now) (args .sheet .now) (args .out .now) (unstruck-trip (ready .0) (ready .1)) (ready .2) (ran .retime-run .ensures)
 
 pub retime-spec : {M : Type 1} → statement M
 retime-spec =

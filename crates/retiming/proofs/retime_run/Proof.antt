@@ -6,6 +6,7 @@ use Prim.Native.Nat.{ℕ}
 use native.Mathlib.Omega.{arith}
 use Rattle.sheets.specs.declared.Heading.{Heading}
 use Rattle.sheets.specs.Sheet.{withHeading}
+use Rattle.moves.specs.Runs.{tripIn}
 use Rattle.retiming.specs.declared.Walked.{Walked}
 use Rattle.retiming.specs.Retiming.{timing}
 use Rattle.retiming.specs.Parts.{SheetSays}
@@ -17,11 +18,11 @@ use Rattle.retiming.proofs.retime_run.Tie as tie
 -- the walk was whole and ended at target
 ended : (c : tie.After-known-told2) →
     let args = c .before .before .before .before .before .before .before .args in
-    SheetSays (args .run .order) (args .sheet .now) (timing false (args .map .now) (args .run .order) (args .sheet .now)) (Walked.Reached (c .before .judged2 .given .0 .0))
+    SheetSays false (tripIn (args .map .now) (args .run)) (args .sheet .now) (Walked.Reached (c .before .judged2 .given .0 .0))
 ended c =
     let judged = c .before .before .before in
     let args = judged .before .before .before .before .args in
-    subst (SheetSays (args .run .order) (args .sheet .now) (timing false (args .map .now) (args .run .order) (args .sheet .now))) (c .before .judged2 .given .1) (judged .judge-sheet .ensures)
+    subst (SheetSays false (tripIn (args .map .now) (args .run)) (args .sheet .now)) (c .before .judged2 .given .1) (judged .judge-sheet .ensures)
 
 read-heading-requires : tie.Need-read-heading-requires
 read-heading-requires c κs = omega (arith, ended c .0)
@@ -30,8 +31,7 @@ returns : tie.Need-returns
 returns c =
     let read = c .before .before in
     let reached = read .before in
-    let args = reached .before .before .before .before .before .before .before .args in
-    retimed-short (args .map .now) (args .run .order) (args .sheet .now) (args .out .now) (reached .before .judged2 .given .0 .0) (ended reached) (read .read-heading .result) (read .read-heading .ensures) (c .before .sheet-needed .result) (c .before .sheet-needed .ensures) (c .if1 .taken)
+    retimed-short _ _ _ (reached .before .judged2 .given .0 .0) (ended reached) (read .read-heading .result) (read .read-heading .ensures) (c .before .sheet-needed .result) (c .before .sheet-needed .ensures) (c .if1 .taken)
 
 write-rows-requires : tie.Need-write-rows-requires
 write-rows-requires c κs =
@@ -39,14 +39,14 @@ write-rows-requires c κs =
     let reached = read .before in
     let start = reached .before .before .before .before .before .before .before in
     let judged = ended reached in
-    (start .pre, (judged .0, (says-ends (timing false (start .args .map .now) (start .args .run .order) (start .args .sheet .now)) (reached .before .judged2 .given .0 .0) (judged .2), rw (← ap (λ (h : Heading). h .moves) (read .read-heading .ensures), ← c .before .before .sheet-needed .ensures) (c .before .if1 .left))))
+    (start .pre, (judged .0, (says-ends (timing false (tripIn (start .args .map .now) (start .args .run)) (start .args .sheet .now)) (reached .before .judged2 .given .0 .0) (judged .2), rw (← ap (λ (h : Heading). h .moves) (read .read-heading .ensures), ← c .before .before .sheet-needed .ensures) (c .before .if1 .left))))
 
 returns-2 : tie.Need-returns-2
 returns-2 c =
     let judged = c .before .before .before in
     let args = judged .before .before .before .before .args in
-    retimed-refused (args .map .now) (args .run .order) (args .sheet .now) (args .out .now) (c .before .judged .given .0 .0)
-    (subst (SheetSays (args .run .order) (args .sheet .now) (timing false (args .map .now) (args .run .order) (args .sheet .now))) (c .before .judged .given .1) (judged .judge-sheet .ensures))
+    retimed-refused _ _ _ (c .before .judged .given .0 .0)
+    (subst (SheetSays false (tripIn (args .map .now) (args .run)) (args .sheet .now)) (c .before .judged .given .1) (judged .judge-sheet .ensures))
 
 returns-3 : tie.Need-returns-3
 returns-3 c =
@@ -56,8 +56,7 @@ returns-3 c =
     let chosen = wrote .before .before in
     let read = chosen .before .before in
     let reached = read .before in
-    let args = reached .before .before .before .before .before .before .before .args in
-    retimed-written (args .map .now) (args .run .order) (args .sheet .now) (args .out .now) (reached .before .judged2 .given .0 .0) (ended reached) (read .read-heading .result) (read .read-heading .ensures) (chosen .before .sheet-needed .result) (chosen .before .sheet-needed .ensures) (chosen .if1 .left) (put .put-heading .last .0)
+    retimed-written _ _ _ (reached .before .judged2 .given .0 .0) (ended reached) (read .read-heading .result) (read .read-heading .ensures) (chosen .before .sheet-needed .result) (chosen .before .sheet-needed .ensures) (chosen .if1 .left) (put .put-heading .last .0)
     (put .put-heading .ensures ∙ ap₂ (λ (l : List ℕ) (h : Heading). withHeading l h) (wrote .write-rows .ensures) (made .heading-for .ensures))
 
 pub retime-run-spec : {M : Type 1} → statement M
