@@ -1,6 +1,6 @@
 -- What a cursor's move is, when it is offered, and what it leads to: a drive, or a pause by its kind. Assumes nothing.
 use mathlib.Core.Path.{_≡_, _∙_, refl, sym, ap}
-use mathlib.Core.Bool.{true, false, _&&_}
+use mathlib.Core.Bool.{Bool, true, false, _&&_}
 use mathlib.Core.List.{List}
 use mathlib.Core.Logic.{⊎-elim}
 use Prim.Native.Nat.{ℕ, zero, suc, _+_, _-_, _≤_, _<_}
@@ -43,7 +43,7 @@ module _ (trip : Trip) (s : State) (cursor : ℕ) where
       rw (move-pause low, ne-eqb kind 1 (λ e. omega arith), eq-eqb (s .junction) (s .junction) refl, le-leb firstPause kind (omega arith), le-leb kind lastPause (omega arith))
 
 -- of a cursor worth trying the driver's figures decide
-pub allowed-offers : {map : List ℕ} {run : Run} {trip : Trip} → Tied map run trip → run .sizes .roads ≡ roadCount map → {s : State} {cursor : ℕ} → Worth trip s cursor →
+pub allowed-offers : {map : List ℕ} {banned : ℕ → Bool} {run : Run} {trip : Trip} → Tied map banned run trip → run .sizes .roads ≡ roadCount map → {s : State} {cursor : ℕ} → Worth trip s cursor →
     allowed run s cursor ≡ offers trip s (moveAt trip s cursor)
 allowed-offers {run = run} {trip = trip} tied sized {s} {cursor} worth =
     ⊎-elim
@@ -87,7 +87,7 @@ pub record DriveTime (from clock seconds : ℕ) : Type 0 where
   pub is : clock - from ≡ seconds
   pub few : seconds ≤ 1440000
 
-module _ {map : List ℕ} {run : Run} {trip : Trip} (tied : Tied map run trip) (s : State) (cursor : ℕ) where
+module _ {map : List ℕ} {banned : ℕ → Bool} {run : Run} {trip : Trip} (tied : Tied map banned run trip) (s : State) (cursor : ℕ) where
   pub result-drive : cursor ≤ roadCount map → driven (roadIn trip cursor) s ≡ resultAt trip s cursor
   unfolding after
   result-drive high = rw (move-drive trip s cursor (rw (tied .roads) high))

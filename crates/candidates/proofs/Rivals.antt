@@ -1,6 +1,6 @@
 -- Moves of the labels before that forestall a successor: it needs no turn of its own, and never will. Assumes nothing.
 use mathlib.Core.Path.{_≡_, _∙_, sym, subst}
-use mathlib.Core.Bool.{true}
+use mathlib.Core.Bool.{Bool, true}
 use mathlib.Core.List.{List}
 use mathlib.Core.Logic.{inl, inr}
 use Prim.Native.Nat.{ℕ, _-_, _≤_, _<_}
@@ -27,7 +27,7 @@ use Rattle.candidates.specs.Trying.{Worth, allowed, Preceded}
 use Rattle.candidates.proofs.Results.{allowed-offers}
 
 -- a road is worth trying where it begins
-pub worth-road : {map : List ℕ} {run : Run} {trip : Trip} → Tied map run trip → {s : State} {r : ℕ} → 1 ≤ r → r ≤ roadCount map → s .junction ≡ roadFrom map r → Worth trip s r
+pub worth-road : {map : List ℕ} {banned : ℕ → Bool} {run : Run} {trip : Trip} → Tied map banned run trip → {s : State} {r : ℕ} → 1 ≤ r → r ≤ roadCount map → s .junction ≡ roadFrom map r → Worth trip s r
 worth-road tied {s} {r} low high there =
     record {
       low = low;
@@ -42,7 +42,7 @@ worth-pause worth more there =
     record { low = worth .low; high = worth .high; road = λ few. absurd (omega arith); pause = λ m. rw there (worth .pause m) }
 
 -- a label before leads to a state that covers a legal one: its move is legal too
-pub preceded : {map : List ℕ} {run : Run} {trip : Trip} → Tied map run trip → run .sizes .roads ≡ roadCount map → {ws : List ℕ} {k before cursor : ℕ} {t : State}
+pub preceded : {map : List ℕ} {banned : ℕ → Bool} {run : Run} {trip : Trip} → Tied map banned run trip → run .sizes .roads ≡ roadCount map → {ws : List ℕ} {k before cursor : ℕ} {t : State}
     → 1 ≤ k → k ≤ before → Worth trip (labelAt ws k) cursor → allowed run (labelAt ws k) cursor ≡ true → legal (run .order) t ≡ true
     → T (covers (resultAt trip (labelAt ws k) cursor) t) → Preceded trip ws before t
 preceded {run = run} {trip} tied sized {ws} {k} {cursor = cursor} {t} low high worth may lawful over =

@@ -1,7 +1,7 @@
 -- The cursors in rising order: the roads along the junction's chain, which rises to its end, then at a car park the kinds of pause.
 -- Assumes nothing.
 use mathlib.Core.Path.{_≡_, _∙_, refl, sym, subst}
-use mathlib.Core.Bool.{true, false}
+use mathlib.Core.Bool.{Bool, true, false}
 use mathlib.Core.List.{List}
 use mathlib.Core.Logic.{⊎-elim}
 use Prim.Native.Nat.{ℕ, zero, suc, _+_, _-_, _≤_, _<_}
@@ -110,7 +110,7 @@ module _ {trip : Trip} {s : State} {cursor : ℕ} (worth : Worth trip s cursor) 
         over = λ c past before named. omega (arith, named .high);
       }
 
-module _ {map : List ℕ} {run : Run} {trip : Trip} (tied : Tied map run trip) (accepted : AcceptedMap map) where
+module _ {map : List ℕ} {banned : ℕ → Bool} {run : Run} {trip : Trip} (tied : Tied map banned run trip) (accepted : AcceptedMap map) where
   -- a road worth trying is from the junction
   from : {s : State} {r : ℕ} → Worth trip s r → r ≤ roadCount map → roadFrom map r ≡ s .junction
   from {s} {r} worth high =

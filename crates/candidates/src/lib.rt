@@ -6,6 +6,7 @@ ghost use lib.ListN.{length};
 ghost use Rattle.roadmap.specs.Format.{mostRoads};
 ghost use Rattle.driving.specs.Hours.{lastPause};
 ghost use Rattle.moves.specs.Trip.{roadsIn, junctionsIn};
+ghost use Rattle.moves.specs.Bans.{closedIn};
 ghost use Rattle.moves.specs.Runs.{Accepted, RangeIn, tripIn};
 ghost use Rattle.states.specs.States.{legal};
 ghost use Rattle.states.specs.LabelSpace.{labelWords};
@@ -37,11 +38,11 @@ struct Rival {
 }
 
 // The state that a cursor's move leads to, legal or not.
-fn result_at(map: &[u8], run: Run, state: State, cursor: u32) -> State
+fn result_at(map: &[u8], closed: &[u8], run: Run, state: State, cursor: u32) -> State
     requires { ⌜ Accepted (now map) run ⌝ }
-    requires { ⌜ RangeIn (tripIn (now map) run) state ⌝ }
-    requires { ⌜ (1 ≤ cursor) × (cursor < roadsIn (tripIn (now map) run) + lastPause) ⌝ }
-    ensures { λ r. ⌜ r ≡ resultAt (tripIn (now (map .entry)) run) state cursor ⌝ }
+    requires { ⌜ RangeIn (tripIn (now map) (closedIn (now closed)) run) state ⌝ }
+    requires { ⌜ (1 ≤ cursor) × (cursor < roadsIn (tripIn (now map) (closedIn (now closed)) run) + lastPause) ⌝ }
+    ensures { λ r. ⌜ r ≡ resultAt (tripIn (now (map .entry)) (closedIn (now (closed .entry))) run) state cursor ⌝ }
 {
     let sizes = run.sizes;
     if cursor <= sizes.roads {
@@ -52,11 +53,18 @@ fn result_at(map: &[u8], run: Run, state: State, cursor: u32) -> State
 
 // The same of a candidate, which knows its junction and its clock: that says how long the move takes,
 // so that the map is not read. `map` and `run` are there for the contract.
-pub fn result_by(map: &[u8], run: Run, sizes: Sizes, state: State, c: Candidate) -> State
+pub fn result_by(
+    map: &[u8],
+    closed: &[u8],
+    run: Run,
+    sizes: Sizes,
+    state: State,
+    c: Candidate,
+) -> State
     requires { ⌜ Accepted (now map) run × (sizes ≡ run .sizes) ⌝ }
-    requires { ⌜ RangeIn (tripIn (now map) run) state ⌝ }
-    requires { ⌜ Fitting (tripIn (now map) run) state c × (1 ≤ c .cursor) ⌝ }
-    ensures { λ r. ⌜ r ≡ resultAt (tripIn (now (map .entry)) run) state (c .cursor) ⌝ }
+    requires { ⌜ RangeIn (tripIn (now map) (closedIn (now closed)) run) state ⌝ }
+    requires { ⌜ Fitting (tripIn (now map) (closedIn (now closed)) run) state c × (1 ≤ c .cursor) ⌝ }
+    ensures { λ r. ⌜ r ≡ resultAt (tripIn (now (map .entry)) (closedIn (now (closed .entry))) run) state (c .cursor) ⌝ }
 {
     let figures = state.figures;
     if c.cursor <= sizes.roads {
@@ -78,6 +86,7 @@ pub fn result_by(map: &[u8], run: Run, sizes: Sizes, state: State, c: Candidate)
 // Of two candidates with one clock the lower-ranked; the first, where both lead to one state.
 fn lower(
     map: &[u8],
+    closed: &[u8],
     run: Run,
     sizes: Sizes,
     state: State,
@@ -86,12 +95,12 @@ fn lower(
     cursor: u32,
 ) -> Candidate
     requires { ⌜ Accepted (now map) run × (sizes ≡ run .sizes) ⌝ }
-    requires { ⌜ RangeIn (tripIn (now map) run) state ⌝ }
-    requires { ⌜ Fitting (tripIn (now map) run) state best × (1 ≤ best .cursor) ⌝ }
-    requires { ⌜ (reached ≡ resultAt (tripIn (now map) run) state cursor) × (reached .clock .0 ≡ best .clock) ⌝ }
-    ensures { λ r. ⌜ Joined (tripIn (now (map .entry)) run) state best cursor r ⌝ }
+    requires { ⌜ RangeIn (tripIn (now map) (closedIn (now closed)) run) state ⌝ }
+    requires { ⌜ Fitting (tripIn (now map) (closedIn (now closed)) run) state best × (1 ≤ best .cursor) ⌝ }
+    requires { ⌜ (reached ≡ resultAt (tripIn (now map) (closedIn (now closed)) run) state cursor) × (reached .clock .0 ≡ best .clock) ⌝ }
+    ensures { λ r. ⌜ Joined (tripIn (now (map .entry)) (closedIn (now (closed .entry))) run) state best cursor r ⌝ }
 {
-    let before = result_by(map, run, sizes, state, best);
+    let before = result_by(map, closed, run, sizes, state, best);
     if states::same_state(before, reached) {
         return best;
     }
@@ -114,6 +123,7 @@ fn lower(
 // The best so far with one more that no label covers: by clocks, and by whole states only where these are equal.
 fn joined(
     map: &[u8],
+    closed: &[u8],
     run: Run,
     sizes: Sizes,
     state: State,
@@ -122,14 +132,14 @@ fn joined(
     cursor: u32,
 ) -> Candidate
     requires { ⌜ Accepted (now map) run × (sizes ≡ run .sizes) ⌝ }
-    requires { ⌜ RangeIn (tripIn (now map) run) state ⌝ }
-    requires { ⌜ Fitting (tripIn (now map) run) state best × Names (tripIn (now map) run) state cursor ⌝ }
-    requires { ⌜ reached ≡ resultAt (tripIn (now map) run) state cursor ⌝ }
-    ensures { λ r. ⌜ Joined (tripIn (now (map .entry)) run) state best cursor r ⌝ }
+    requires { ⌜ RangeIn (tripIn (now map) (closedIn (now closed)) run) state ⌝ }
+    requires { ⌜ Fitting (tripIn (now map) (closedIn (now closed)) run) state best × Names (tripIn (now map) (closedIn (now closed)) run) state cursor ⌝ }
+    requires { ⌜ reached ≡ resultAt (tripIn (now map) (closedIn (now closed)) run) state cursor ⌝ }
+    ensures { λ r. ⌜ Joined (tripIn (now (map .entry)) (closedIn (now (closed .entry))) run) state best cursor r ⌝ }
 {
     let clock = reached.clock.0;
     if clock == best.clock {
-        return lower(map, run, sizes, state, best, reached, cursor);
+        return lower(map, closed, run, sizes, state, best, reached, cursor);
     }
     if clock < best.clock {
         return Candidate {
@@ -172,10 +182,18 @@ fn shares_clock(words: &[u32], before: usize, state: State) -> bool
 }
 
 // The road of a hint, taken by the last label where it begins; none where the hint is of another clock.
-fn hinted(map: &[u8], run: Run, words: &[u32], heads: &[u32], hint: u32, clock: u32) -> Rival
+fn hinted(
+    map: &[u8],
+    closed: &[u8],
+    run: Run,
+    words: &[u32],
+    heads: &[u32],
+    hint: u32,
+    clock: u32,
+) -> Rival
     requires { ⌜ Accepted (now map) run ⌝ }
-    requires { ⌜ (junctionsIn (tripIn (now map) run) < length (now heads)) × AllStand (now words) (now heads) ⌝ }
-    ensures { λ r. ⌜ Contends (tripIn (now (map .entry)) run) (now (words .entry)) r ⌝ }
+    requires { ⌜ (junctionsIn (tripIn (now map) (closedIn (now closed)) run) < length (now heads)) × AllStand (now words) (now heads) ⌝ }
+    ensures { λ r. ⌜ Contends (tripIn (now (map .entry)) (closedIn (now (closed .entry))) run) (now (words .entry)) r ⌝ }
 {
     let sizes = run.sizes;
     let road = hint / HINT_BASE;
@@ -203,6 +221,7 @@ fn hinted(map: &[u8], run: Run, words: &[u32], heads: &[u32], hint: u32, clock: 
 // junction or, where clocks are tied, a drive to the same junction, by the hint.
 fn rival_of(
     map: &[u8],
+    closed: &[u8],
     run: Run,
     words: &[u32],
     heads: &[u32],
@@ -213,9 +232,9 @@ fn rival_of(
     cursor: u32,
 ) -> Rival
     requires { ⌜ Accepted (now map) run ⌝ }
-    requires { ⌜ (junctionsIn (tripIn (now map) run) < length (now heads)) × AllStand (now words) (now heads) ⌝ }
-    requires { ⌜ (roadsIn (tripIn (now map) run) < cursor → 1 ≤ last → Worth (tripIn (now map) run) (labelAt (now words) last) cursor) ⌝ }
-    ensures { λ r. ⌜ Contends (tripIn (now (map .entry)) run) (now (words .entry)) r ⌝ }
+    requires { ⌜ (junctionsIn (tripIn (now map) (closedIn (now closed)) run) < length (now heads)) × AllStand (now words) (now heads) ⌝ }
+    requires { ⌜ (roadsIn (tripIn (now map) (closedIn (now closed)) run) < cursor → 1 ≤ last → Worth (tripIn (now map) (closedIn (now closed)) run) (labelAt (now words) last) cursor) ⌝ }
+    ensures { λ r. ⌜ Contends (tripIn (now (map .entry)) (closedIn (now (closed .entry))) run) (now (words .entry)) r ⌝ }
 {
     if run.sizes.roads < cursor {
         return Rival {
@@ -226,15 +245,23 @@ fn rival_of(
     if !tied {
         return Rival { label: 0, cursor };
     }
-    hinted(map, run, words, heads, hint, clock)
+    hinted(map, closed, run, words, heads, hint, clock)
 }
 
 // Whether a rival, of a label before, leads to a state that covers this one.
-fn leads(map: &[u8], run: Run, words: &[u32], before: usize, by: Rival, reached: State) -> bool
+fn leads(
+    map: &[u8],
+    closed: &[u8],
+    run: Run,
+    words: &[u32],
+    before: usize,
+    by: Rival,
+    reached: State,
+) -> bool
     requires { ⌜ Accepted (now map) run ⌝ }
-    requires { ⌜ Ranged (tripIn (now map) run) (now words) before × (labelWords * before ≤ length (now words)) ⌝ }
-    requires { ⌜ Contends (tripIn (now map) run) (now words) by × (legal (run .order) reached ≡ true) ⌝ }
-    ensures { λ r. ⌜ (r ≡ true → Preceded (tripIn (now (map .entry)) run) (now (words .entry)) before reached) ⌝ }
+    requires { ⌜ Ranged (tripIn (now map) (closedIn (now closed)) run) (now words) before × (labelWords * before ≤ length (now words)) ⌝ }
+    requires { ⌜ Contends (tripIn (now map) (closedIn (now closed)) run) (now words) by × (legal (run .order) reached ≡ true) ⌝ }
+    ensures { λ r. ⌜ (r ≡ true → Preceded (tripIn (now (map .entry)) (closedIn (now (closed .entry))) run) (now (words .entry)) before reached) ⌝ }
 {
     if by.label == 0 {
         return false;
@@ -246,7 +273,7 @@ fn leads(map: &[u8], run: Run, words: &[u32], before: usize, by: Rival, reached:
     if !allowed(run, label, by.cursor) {
         return false;
     }
-    let there = result_at(map, run, label, by.cursor);
+    let there = result_at(map, closed, run, label, by.cursor);
     states::covers(there, reached)
 }
 
@@ -254,6 +281,7 @@ fn leads(map: &[u8], run: Run, words: &[u32], before: usize, by: Rival, reached:
 // shows one. Its turn comes first.
 fn forestalled(
     map: &[u8],
+    closed: &[u8],
     run: Run,
     words: &[u32],
     heads: &[u32],
@@ -265,14 +293,15 @@ fn forestalled(
     reached: State,
 ) -> bool
     requires { ⌜ Accepted (now map) run × (legal (run .order) reached ≡ true) ⌝ }
-    requires { ⌜ (junctionsIn (tripIn (now map) run) < length (now heads)) × AllStand (now words) (now heads) ⌝ }
-    requires { ⌜ Ranged (tripIn (now map) run) (now words) before × (labelWords * before ≤ length (now words)) × (hintEntries ≤ length (now hints)) ⌝ }
-    requires { ⌜ (roadsIn (tripIn (now map) run) < cursor → 1 ≤ last → Worth (tripIn (now map) run) (labelAt (now words) last) cursor) ⌝ }
-    ensures { λ r. ⌜ (r ≡ true → Preceded (tripIn (now (map .entry)) run) (now (words .entry)) before reached) ⌝ }
+    requires { ⌜ (junctionsIn (tripIn (now map) (closedIn (now closed)) run) < length (now heads)) × AllStand (now words) (now heads) ⌝ }
+    requires { ⌜ Ranged (tripIn (now map) (closedIn (now closed)) run) (now words) before × (labelWords * before ≤ length (now words)) × (hintEntries ≤ length (now hints)) ⌝ }
+    requires { ⌜ (roadsIn (tripIn (now map) (closedIn (now closed)) run) < cursor → 1 ≤ last → Worth (tripIn (now map) (closedIn (now closed)) run) (labelAt (now words) last) cursor) ⌝ }
+    ensures { λ r. ⌜ (r ≡ true → Preceded (tripIn (now (map .entry)) (closedIn (now (closed .entry))) run) (now (words .entry)) before reached) ⌝ }
 {
     let hint = hints[reached.junction as usize % HINT_ENTRIES];
     let by = rival_of(
         map,
+        closed,
         run,
         words,
         heads,
@@ -282,7 +311,7 @@ fn forestalled(
         last,
         cursor,
     );
-    leads(map, run, words, before, by, reached)
+    leads(map, closed, run, words, before, by, reached)
 }
 
 // Keeps a hint of the road under a cursor, where clocks are tied; of a pause none.
@@ -302,6 +331,7 @@ fn keep_hint(hints: &mut [u32], run: Run, tied: bool, reached: State, cursor: u3
 // The best so far with the successor under this cursor. Labels are looked at only where it would tell something.
 fn weigh(
     map: &[u8],
+    closed: &[u8],
     run: Run,
     words: &[u32],
     heads: &[u32],
@@ -318,16 +348,16 @@ fn weigh(
     cursor: u32,
 ) -> Candidate
     requires { ⌜ Accepted (now map) run ⌝ }
-    requires { ⌜ RangeIn (tripIn (now map) run) state ⌝ }
-    requires { ⌜ Lists (now words) (now heads) (now spells) (now shifts) n × (junctionsIn (tripIn (now map) run) < length (now heads)) ⌝ }
-    requires { ⌜ (before ≤ n) × Ranged (tripIn (now map) run) (now words) before × Stands (now words) (state .junction) last × (hintEntries ≤ length (now hints)) ⌝ }
-    requires { ⌜ Worth (tripIn (now map) run) state cursor × BestBelow (tripIn (now map) run) (settled (now words) n) before state bound cursor best ⌝ }
-    ensures { λ r. ⌜ BestBelow (tripIn (now (map .entry)) run) (settled (now (words .entry)) n) before state bound (cursor + 1) r ⌝ }
+    requires { ⌜ RangeIn (tripIn (now map) (closedIn (now closed)) run) state ⌝ }
+    requires { ⌜ Lists (now words) (now heads) (now spells) (now shifts) n × (junctionsIn (tripIn (now map) (closedIn (now closed)) run) < length (now heads)) ⌝ }
+    requires { ⌜ (before ≤ n) × Ranged (tripIn (now map) (closedIn (now closed)) run) (now words) before × Stands (now words) (state .junction) last × (hintEntries ≤ length (now hints)) ⌝ }
+    requires { ⌜ Worth (tripIn (now map) (closedIn (now closed)) run) state cursor × BestBelow (tripIn (now map) (closedIn (now closed)) run) (settled (now words) n) before state bound cursor best ⌝ }
+    ensures { λ r. ⌜ BestBelow (tripIn (now (map .entry)) (closedIn (now (closed .entry))) run) (settled (now (words .entry)) n) before state bound (cursor + 1) r ⌝ }
 {
     if !allowed(run, state, cursor) {
         return best;
     }
-    let reached = result_at(map, run, state, cursor);
+    let reached = result_at(map, closed, run, state, cursor);
     if best.more {
         if best.clock < reached.clock.0 {
             return best;
@@ -344,6 +374,7 @@ fn weigh(
     }
     if forestalled(
         map,
+        closed,
         run,
         words,
         heads,
@@ -357,14 +388,14 @@ fn weigh(
         return best;
     }
     keep_hint(hints, run, tied, reached, cursor);
-    joined(map, run, run.sizes, state, best, reached, cursor)
+    joined(map, closed, run, run.sizes, state, best, reached, cursor)
 }
 
 // The cursor after those of the roads: that of the first kind of pause, 0 where no car park is.
-fn first_pause(map: &[u8], run: Run, state: State) -> u32
+fn first_pause(map: &[u8], closed: &[u8], run: Run, state: State) -> u32
     requires { ⌜ Accepted (now map) run ⌝ }
-    requires { ⌜ RangeIn (tripIn (now map) run) state ⌝ }
-    ensures { λ r. ⌜ Follows (tripIn (now (map .entry)) run) state (roadsIn (tripIn (now (map .entry)) run)) r ⌝ }
+    requires { ⌜ RangeIn (tripIn (now map) (closedIn (now closed)) run) state ⌝ }
+    ensures { λ r. ⌜ Follows (tripIn (now (map .entry)) (closedIn (now (closed .entry))) run) state (roadsIn (tripIn (now (map .entry)) (closedIn (now (closed .entry))) run)) r ⌝ }
 {
     let sizes = run.sizes;
     if roadmap::car_park(map, sizes, state.junction) == 1 {
@@ -374,24 +405,24 @@ fn first_pause(map: &[u8], run: Run, state: State) -> u32
 }
 
 // Cursors in rising order: the roads of the junction, along its chain, then at a car park the kinds of pause. 0 is the end.
-fn first_cursor(map: &[u8], run: Run, state: State) -> u32
+fn first_cursor(map: &[u8], closed: &[u8], run: Run, state: State) -> u32
     requires { ⌜ Accepted (now map) run ⌝ }
-    requires { ⌜ RangeIn (tripIn (now map) run) state ⌝ }
-    ensures { λ r. ⌜ Follows (tripIn (now (map .entry)) run) state 0 r ⌝ }
+    requires { ⌜ RangeIn (tripIn (now map) (closedIn (now closed)) run) state ⌝ }
+    ensures { λ r. ⌜ Follows (tripIn (now (map .entry)) (closedIn (now (closed .entry))) run) state 0 r ⌝ }
 {
     let sizes = run.sizes;
     let road = roadmap::first_road(map, sizes, state.junction);
     if 0 < road {
         return road;
     }
-    first_pause(map, run, state)
+    first_pause(map, closed, run, state)
 }
 
-fn following(map: &[u8], run: Run, state: State, cursor: u32) -> u32
+fn following(map: &[u8], closed: &[u8], run: Run, state: State, cursor: u32) -> u32
     requires { ⌜ Accepted (now map) run ⌝ }
-    requires { ⌜ RangeIn (tripIn (now map) run) state ⌝ }
-    requires { ⌜ Worth (tripIn (now map) run) state cursor ⌝ }
-    ensures { λ r. ⌜ Follows (tripIn (now (map .entry)) run) state cursor r ⌝ }
+    requires { ⌜ RangeIn (tripIn (now map) (closedIn (now closed)) run) state ⌝ }
+    requires { ⌜ Worth (tripIn (now map) (closedIn (now closed)) run) state cursor ⌝ }
+    ensures { λ r. ⌜ Follows (tripIn (now (map .entry)) (closedIn (now (closed .entry))) run) state cursor r ⌝ }
 {
     let sizes = run.sizes;
     if cursor <= sizes.roads {
@@ -399,7 +430,7 @@ fn following(map: &[u8], run: Run, state: State, cursor: u32) -> u32
         if 0 < road {
             return road;
         }
-        return first_pause(map, run, state);
+        return first_pause(map, closed, run, state);
     }
     let kind = cursor - sizes.roads + 1;
     if kind == Rules::LAST_PAUSE {
@@ -417,6 +448,7 @@ fn following(map: &[u8], run: Run, state: State, cursor: u32) -> u32
 // labels stand before this one, and `last` is the last of them at its junction, or 0.
 pub fn next_candidate(
     map: &[u8],
+    closed: &[u8],
     run: Run,
     words: &[u32],
     heads: &[u32],
@@ -430,17 +462,18 @@ pub fn next_candidate(
     bound: State,
 ) -> Candidate
     requires { ⌜ Accepted (now map) run ⌝ }
-    requires { ⌜ RangeIn (tripIn (now map) run) state ⌝ }
-    requires { ⌜ Lists (now words) (now heads) (now spells) (now shifts) n × (junctionsIn (tripIn (now map) run) < length (now heads)) ⌝ }
-    requires { ⌜ (before ≤ n) × Ranged (tripIn (now map) run) (now words) before × Stands (now words) (state .junction) last × (hintEntries ≤ length (now hints)) ⌝ }
-    ensures { λ r. ⌜ NextIs (tripIn (now (map .entry)) run) (settled (now (words .entry)) n) before state bound r ⌝ }
+    requires { ⌜ RangeIn (tripIn (now map) (closedIn (now closed)) run) state ⌝ }
+    requires { ⌜ Lists (now words) (now heads) (now spells) (now shifts) n × (junctionsIn (tripIn (now map) (closedIn (now closed)) run) < length (now heads)) ⌝ }
+    requires { ⌜ (before ≤ n) × Ranged (tripIn (now map) (closedIn (now closed)) run) (now words) before × Stands (now words) (state .junction) last × (hintEntries ≤ length (now hints)) ⌝ }
+    ensures { λ r. ⌜ NextIs (tripIn (now (map .entry)) (closedIn (now (closed .entry))) run) (settled (now (words .entry)) n) before state bound r ⌝ }
 {
     let tied = shares_clock(words, before, state);
     let mut best = Candidate::NONE;
-    let mut cursor = first_cursor(map, run, state);
+    let mut cursor = first_cursor(map, closed, run, state);
     while 0 < cursor {
         let weighed = weigh(
             map,
+            closed,
             run,
             words,
             heads,
@@ -463,7 +496,7 @@ pub fn next_candidate(
             clock: weighed.clock,
             more: weighed.more,
         };
-        cursor = following(map, run, state, cursor);
+        cursor = following(map, closed, run, state, cursor);
     }
     best
 }
@@ -471,6 +504,7 @@ pub fn next_candidate(
 // The next candidate of a label after the one at the bound, where a flag says whether there may be more.
 pub fn candidate_after(
     map: &[u8],
+    closed: &[u8],
     run: Run,
     words: &[u32],
     heads: &[u32],
@@ -485,15 +519,16 @@ pub fn candidate_after(
     more: bool,
 ) -> Candidate
     requires { ⌜ Accepted (now map) run ⌝ }
-    requires { ⌜ RangeIn (tripIn (now map) run) state ⌝ }
-    requires { ⌜ Lists (now words) (now heads) (now spells) (now shifts) n × (junctionsIn (tripIn (now map) run) < length (now heads)) ⌝ }
-    requires { ⌜ (before ≤ n) × Ranged (tripIn (now map) run) (now words) before × Stands (now words) (state .junction) last × (hintEntries ≤ length (now hints)) ⌝ }
-    requires { ⌜ (more ≡ false → Spent (tripIn (now map) run) (settled (now words) n) before state bound) ⌝ }
-    ensures { λ r. ⌜ NextIs (tripIn (now (map .entry)) run) (settled (now (words .entry)) n) before state bound r ⌝ }
+    requires { ⌜ RangeIn (tripIn (now map) (closedIn (now closed)) run) state ⌝ }
+    requires { ⌜ Lists (now words) (now heads) (now spells) (now shifts) n × (junctionsIn (tripIn (now map) (closedIn (now closed)) run) < length (now heads)) ⌝ }
+    requires { ⌜ (before ≤ n) × Ranged (tripIn (now map) (closedIn (now closed)) run) (now words) before × Stands (now words) (state .junction) last × (hintEntries ≤ length (now hints)) ⌝ }
+    requires { ⌜ (more ≡ false → Spent (tripIn (now map) (closedIn (now closed)) run) (settled (now words) n) before state bound) ⌝ }
+    ensures { λ r. ⌜ NextIs (tripIn (now (map .entry)) (closedIn (now (closed .entry))) run) (settled (now (words .entry)) n) before state bound r ⌝ }
 {
     if more {
         return next_candidate(
             map,
+            closed,
             run,
             words,
             heads,

@@ -28,6 +28,7 @@ eases-itself trip =
       from = λ r low high. refl;
       to = λ r low high. refl;
       seconds = λ r low high. omega arith;
+      banned = λ r low high e. e;
       parks = λ j e. e;
       latest = refl;
       rules = record { limits = above-self _; pauses = above-self _; split = λ has. has; parts = λ has. above-self _ };

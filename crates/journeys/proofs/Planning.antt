@@ -20,7 +20,7 @@ use Rattle.driving.specs.Order.{orderOf, orderTests}
 use Rattle.driving.proofs.Accepted.{order-accepted}
 use Rattle.states.specs.declared.State.{State}
 use Rattle.moves.specs.declared.Move.{Move}
-use Rattle.moves.specs.Trip.{Trip}
+use Rattle.moves.specs.Trip.{Trip, noneBanned}
 use Rattle.moves.proofs.Rising.{SoundTrip, sound-trip}
 use Rattle.sheets.specs.Sheet.{shortSheet}
 use Rattle.journeys.specs.Journeys.{Journey}
@@ -35,7 +35,7 @@ use Rattle.journeys.proofs.Plan.{plan-journey, plan-short}
 
 -- an accepted map and order make a sound run
 pub accepted-sound : (map order : List ℕ) → AcceptedMap map → NoneFits (orderTests (junctionCount map) order) → SoundTrip (tripFrom map order)
-accepted-sound map order mapped ordered = sound-trip map (orderOf order) mapped (order-accepted (junctionCount map) order ordered)
+accepted-sound map order mapped ordered = sound-trip map noneBanned (orderOf order) mapped (order-accepted (junctionCount map) order ordered)
 
 module _ (map order : List ℕ) (fit sheet : ℕ) where
   -- of both accepted, what the search says

@@ -1,6 +1,6 @@
 -- Two runs compared by their bytes: an easier run eases the other as the laws of the moves ask. Assumes nothing.
 use mathlib.Core.Path.{_≡_, sym, ap, _∙_}
-use mathlib.Core.Bool.{true, false}
+use mathlib.Core.Bool.{Bool, true, false}
 use mathlib.Core.List.{List, [], _∷_}
 use mathlib.Core.Logic.{⊎-elim}
 use mathlib.Core.Option.{some}
@@ -18,7 +18,7 @@ use Rattle.theory.proofs.Figures.{above-more, above-both, above-self}
 use Rattle.states.specs.declared.State.{State}
 use Rattle.states.specs.States.{covers}
 use Rattle.states.proofs.Compared.{covers-made}
-use Rattle.moves.specs.Trip.{Stretch, tripOf, stretchOf, roadIn, parkIn, roadsIn}
+use Rattle.moves.specs.Trip.{Stretch, Trip, stretchOf, noneBanned, tripOf, roadIn, parkIn, roadsIn}
 use Rattle.moves.specs.Compared.{Eases}
 use Rattle.moves.proofs.Trips.{roads-in, junctions-in, road-in, park-in}
 use Rattle.journeys.specs.Journeys.{startIn}
@@ -28,50 +28,64 @@ use Rattle.journeys.specs.Compared.{EasierRun}
 use Rattle.journeys.proofs.Planning.{accepted-sound}
 use Rattle.journeys.proofs.Compared.{EasedAnswer, eased-answer}
 
-module _ (mapB orderB mapA orderA : List ℕ) (easier : EasierRun mapB orderB mapA orderA) where
-  within : (r : ℕ) → r ≤ roadsIn (tripFrom mapA orderA) → r ≤ roadCount mapA
-  within r high = rw (roads-in mapA (orderOf orderA)) at high
+-- whichever roads are banned, if B's are among A's
+module _ (mapB orderB mapA orderA : List ℕ) (easier : EasierRun mapB orderB mapA orderA) (banned-b banned-a : ℕ → Bool)
+    (among : (r : ℕ) → banned-b r ≡ true → banned-a r ≡ true) where
+  abbrev trip-b : Trip
+  trip-b = tripOf mapB banned-b (orderOf orderB)
 
-  road-b : (r : ℕ) → 1 ≤ r → r ≤ roadsIn (tripFrom mapA orderA) → roadIn (tripFrom mapB orderB) r ≡ stretchOf mapB r
-  road-b r low high = road-in mapB (orderOf orderB) r low (omega (arith, within r high, easier .roads .roads))
+  abbrev trip-a : Trip
+  trip-a = tripOf mapA banned-a (orderOf orderA)
 
-  road-a : (r : ℕ) → 1 ≤ r → r ≤ roadsIn (tripFrom mapA orderA) → roadIn (tripFrom mapA orderA) r ≡ stretchOf mapA r
-  road-a r low high = road-in mapA (orderOf orderA) r low (within r high)
+  within : (r : ℕ) → r ≤ roadsIn trip-a → r ≤ roadCount mapA
+  within r high = rw (roads-in mapA banned-a (orderOf orderA)) at high
+
+  road-b : (r : ℕ) → 1 ≤ r → r ≤ roadsIn trip-a → roadIn trip-b r ≡ stretchOf mapB banned-b r
+  road-b r low high = road-in mapB banned-b (orderOf orderB) r low (omega (arith, within r high, easier .roads .roads))
+
+  road-a : (r : ℕ) → 1 ≤ r → r ≤ roadsIn trip-a → roadIn trip-a r ≡ stretchOf mapA banned-a r
+  road-a r low high = road-in mapA banned-a (orderOf orderA) r low (within r high)
 
   -- a car park of A's record is one of B's; junction 0 stands for junction 1 in both, and beyond the last there is none
-  park-b : (j : ℕ) → 1 ≤ j → parkIn (tripFrom mapA orderA) j ≡ true → parkIn (tripFrom mapB orderB) j ≡ true
+  park-b : (j : ℕ) → 1 ≤ j → parkIn trip-a j ≡ true → parkIn trip-b j ≡ true
   park-b j low e =
       ⊎-elim
       (λ (beyond : ltb (junctionCount mapA) j ≡ true).
-      absurd (not-both e (List·getD-eq-default (tripFrom mapA orderA .parks) false
-      (omega (arith, ltb-true (junctionCount mapA) j beyond, junctions-in mapA (orderOf orderA))))))
+      absurd (not-both e (List·getD-eq-default (trip-a .parks) false
+      (omega (arith, ltb-true (junctionCount mapA) j beyond, junctions-in mapA banned-a (orderOf orderA))))))
       (λ (inside : ltb (junctionCount mapA) j ≡ false).
       let high = ltb-false (junctionCount mapA) j inside in
-      let is-a : eqb (carPark mapA j) 1 ≡ true = sym (park-in mapA (orderOf orderA) j low high) ∙ e in
-      park-in mapB (orderOf orderB) j low (omega (arith, high, easier .roads .junctions))
+      let is-a : eqb (carPark mapA j) 1 ≡ true = sym (park-in mapA banned-a (orderOf orderA) j low high) ∙ e in
+      park-in mapB banned-b (orderOf orderB) j low (omega (arith, high, easier .roads .junctions))
       ∙ eq-eqb (carPark mapB j) 1 (easier .map .parks j low high (eqb-true (carPark mapA j) 1 is-a)))
       (cases (ltb (junctionCount mapA) j))
 
-  park-any : (j : ℕ) → parkIn (tripFrom mapA orderA) j ≡ true → parkIn (tripFrom mapB orderB) j ≡ true
+  park-any : (j : ℕ) → parkIn trip-a j ≡ true → parkIn trip-b j ≡ true
   park-any zero e = park-b 1 (omega arith) e
   park-any (suc j) e = park-b (suc j) (omega arith) e
 
-  pub run-eases : Eases (tripFrom mapB orderB) (tripFrom mapA orderA)
+  pub eases-with : Eases trip-b trip-a
   unfolding tripOf
-  run-eases =
+  eases-with =
       record {
-        junctions = junctions-in mapB (orderOf orderB) ∙ easier .roads .junctions ∙ sym (junctions-in mapA (orderOf orderA));
-        roads = roads-in mapB (orderOf orderB) ∙ easier .roads .roads ∙ sym (roads-in mapA (orderOf orderA));
+        junctions = junctions-in mapB banned-b (orderOf orderB) ∙ easier .roads .junctions ∙ sym (junctions-in mapA banned-a (orderOf orderA));
+        roads = roads-in mapB banned-b (orderOf orderB) ∙ easier .roads .roads ∙ sym (roads-in mapA banned-a (orderOf orderA));
         from = λ r low high.
             ap (λ (s : Stretch). s .from) (road-b r low high) ∙ easier .roads .from r low (within r high) ∙ sym (ap (λ (s : Stretch). s .from) (road-a r low high));
         to = λ r low high.
             ap (λ (s : Stretch). s .to) (road-b r low high) ∙ easier .roads .to r low (within r high) ∙ sym (ap (λ (s : Stretch). s .to) (road-a r low high));
         seconds = λ r low high.
             omega (arith, ap (λ (s : Stretch). s .seconds) (road-b r low high), ap (λ (s : Stretch). s .seconds) (road-a r low high), easier .map .seconds r low (within r high));
+        banned = λ r low high e.
+            ap (λ (s : Stretch). s .banned) (road-a r low high) ∙ among r (sym (ap (λ (s : Stretch). s .banned) (road-b r low high)) ∙ e);
         parks = park-any;
         latest = easier .trip .latest;
         rules = easier .order .rules;
       }
+
+module _ (mapB orderB mapA orderA : List ℕ) (easier : EasierRun mapB orderB mapA orderA) where
+  run-eases : Eases (tripFrom mapB orderB) (tripFrom mapA orderA)
+  run-eases = eases-with mapB orderB mapA orderA easier noneBanned noneBanned (λ r e. e)
 
   pub run-starts : T (covers (startIn (tripFrom mapB orderB)) (startIn (tripFrom mapA orderA)))
   unfolding tripOf

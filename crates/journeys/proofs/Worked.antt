@@ -25,7 +25,7 @@ record Worked : Type 0 where
   rows : List Row
 
 abbrev road : ℕ → ℕ → ℕ → Stretch
-road from to seconds = record { from = from; to = to; seconds = seconds }
+road from to seconds = record { from = from; to = to; seconds = seconds; banned = false }
 
 -- from source to target, departure 0, by these rules and latest arrival, with this spell, shift and week
 abbrev tripUnder : Rules → ℕ → List Stretch → List Bool → ℕ → ℕ → ℕ → Trip

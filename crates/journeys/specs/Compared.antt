@@ -8,7 +8,7 @@ use Rattle.roadmap.specs.Format.{junctionCount, roadCount, carPark, roadFrom, r
 use Rattle.driving.specs.Order.{orderWord, orderOf}
 use Rattle.driving.specs.Hours.{wheelFigures}
 use Rattle.driving.specs.Compared.{EasesRules}
-use Rattle.moves.specs.Trip.{stretchOf}
+use Rattle.moves.specs.Trip.{roadTime}
 
 -- two runs share the junctions and the roads' numbers and ends: J and R are equal, and each road number has the same from and to
 pub record SharedRoads (b a : List ℕ) : Type 0 where
@@ -26,7 +26,7 @@ pub record SharedTrip (b a : List ℕ) : Type 0 where
 
 -- in B no road takes longer, and each car park of A is one
 pub record EasierMap (b a : List ℕ) : Type 0 where
-  pub seconds : (r : ℕ) → 1 ≤ r → r ≤ roadCount a → stretchOf b r .seconds ≤ stretchOf a r .seconds
+  pub seconds : (r : ℕ) → 1 ≤ r → r ≤ roadCount a → roadTime b r ≤ roadTime a r
   pub parks : (j : ℕ) → 1 ≤ j → j ≤ junctionCount a → carPark a j ≡ 1 → carPark b j ≡ 1
 
 -- in B no starting figure is higher, and the rules are no harder

@@ -12,7 +12,7 @@ use Rattle.roadmap.specs.Format.{junctionCount}
 use Rattle.mapcheck.specs.MapCheck.{mapTests}
 use Rattle.driving.specs.Order.{orderOf, orderTests}
 use Rattle.states.specs.declared.State.{State}
-use Rattle.moves.specs.Trip.{Trip, tripOf}
+use Rattle.moves.specs.Trip.{Trip, noneBanned, tripOf}
 use Rattle.sheets.specs.Sheet.{shortSheet}
 use Rattle.journeys.specs.Labels.{answerIn, labelCount}
 use Rattle.journeys.specs.Plan.{moveCount, plannedSheet}
@@ -46,7 +46,7 @@ abbrev pub planned : Trip → Reply
 planned trip = succeeded (labelCount trip) (arrivalOf (answerIn trip))
 
 abbrev pub tripFrom : List ℕ → List ℕ → Trip
-tripFrom map order = tripOf map (orderOf order)
+tripFrom map order = tripOf map noneBanned (orderOf order)
 
 -- what planning says of an accepted map and order
 unfoldable pub searchReply : Trip → ℕ → ℕ → Reply

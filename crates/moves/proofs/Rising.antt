@@ -1,6 +1,6 @@
 -- Every move raises the clock by its own time, at least 1, and a legal one keeps the state in range. Assumes nothing.
 use mathlib.Core.Path.{_≡_, sym, ap, subst}
-use mathlib.Core.Bool.{true, false}
+use mathlib.Core.Bool.{Bool, true, false}
 use mathlib.Core.List.{List}
 use mathlib.Core.Logic.{⊎-elim}
 use Prim.Native.Nat.{ℕ, _+_, _≤_}
@@ -34,24 +34,24 @@ use Rattle.moves.proofs.Struck.{struck-roads, struck-parks, struck-orde
 use Rattle.moves.proofs.Stepped.{offered-road}
 use Rattle.moves.proofs.Offered.{pause-allowed}
 
-pub sound-trip : (map : List ℕ) (o : Order) → AcceptedMap map → AcceptedOrder (junctionCount map) o → SoundTrip (tripOf map o)
-sound-trip map o accepted ordered =
+pub sound-trip : (map : List ℕ) (banned : ℕ → Bool) (o : Order) → AcceptedMap map → AcceptedOrder (junctionCount map) o → SoundTrip (tripOf map banned o)
+sound-trip map banned o accepted ordered =
     let sound = sound-map map accepted in
     record {
-      few = rw (junctions-in map o) (sound .counts .few-junctions);
-      few-roads = rw (roads-in map o) (sound .counts .few-roads);
-      to-low = λ r low high. let top = within r high in rw (road-in map o r low top) (sound .roads r low top .to .above);
+      few = rw (junctions-in map banned o) (sound .counts .few-junctions);
+      few-roads = rw (roads-in map banned o) (sound .counts .few-roads);
+      to-low = λ r low high. let top = within r high in rw (road-in map banned o r low top) (sound .roads r low top .to .above);
       to-high = λ r low high.
-          let top = within r high in rw (road-in map o r low top, junctions-in map o) (sound .roads r low top .to .below);
+          let top = within r high in rw (road-in map banned o r low top, junctions-in map banned o) (sound .roads r low top .to .below);
       seconds = λ r low high.
           let top = within r high in
           let road = sound .roads r low top in
-          rw (road-in map o r low top) (at-least-1 _ _ (omega (arith, road .speed .above)) (road .metres .above));
-      ordered = rw (junctions-in map o, order-in map o) ordered;
+          rw (road-in map banned o r low top) (at-least-1 _ _ (omega (arith, road .speed .above)) (road .metres .above));
+      ordered = rw (junctions-in map banned o, order-in map banned o) ordered;
     }
   where
-    within : (r : ℕ) → r ≤ roadsIn (tripOf map o) → r ≤ roadCount map
-    within r high = rw (roads-in map o) at high
+    within : (r : ℕ) → r ≤ roadsIn (tripOf map banned o) → r ≤ roadCount map
+    within r high = rw (roads-in map banned o) at high
 
 -- a struck road leads to the junction where it begins
 module _ (trip : Trip) (sound : SoundTrip trip) (k : ℕ) (known : 1 ≤ k → k ≤ roadsIn trip → (1 ≤ roadIn trip k .from) × (roadIn trip k .from ≤ junctionsIn trip)) where
@@ -82,14 +82,14 @@ module _ (trip : Trip) (sound : SoundTrip trip) (k : ℕ) (known : 1 ≤ k → k
         ordered = rw (junctions, struck-order trip k) (sound .ordered);
       }
 
-pub run-sound : (map : List ℕ) (run : Run) → Accepted map run → SoundTrip (tripIn map run)
-run-sound map run accepted =
-    let trip : Trip = tripOf map (run .order) in
+pub run-sound : (map : List ℕ) (banned : ℕ → Bool) (run : Run) → Accepted map run → SoundTrip (tripIn map banned run)
+run-sound map banned run accepted =
+    let trip : Trip = tripOf map banned (run .order) in
     let roads = sound-map map (accepted .mapped) .roads in
-    struck-sound trip (sound-trip map (run .order) (accepted .mapped) (accepted .ordered)) (run .struck)
+    struck-sound trip (sound-trip map banned (run .order) (accepted .mapped) (accepted .ordered)) (run .struck)
     (λ low high.
     let top : run .struck ≤ roadCount map = accepted .known in
-    rw (road-in map (run .order) (run .struck) low top, junctions-in map (run .order)) (roads (run .struck) low top .from .above, roads (run .struck) low top .from .below))
+    rw (road-in map banned (run .order) (run .struck) low top, junctions-in map banned (run .order)) (roads (run .struck) low top .from .above, roads (run .struck) low top .from .below))
 
 -- arrival less departure is the sum of road times, breaks, rests, parts of breaks and weekly rests
 pub clock-after : (trip : Trip) (s : State) (m : Move) → after trip s m .clock .0 ≡ s .clock .0 + moveSeconds trip m
@@ -149,7 +149,7 @@ start-range junctions o ordered =
     }
 
 -- so is the start of a run
-pub run-starts : {map : List ℕ} {run : Run} {trip : Trip} → Tied map run trip → SoundTrip trip → RangeIn trip (startOf (run .order))
+pub run-starts : {map : List ℕ} {banned : ℕ → Bool} {run : Run} {trip : Trip} → Tied map banned run trip → SoundTrip trip → RangeIn trip (startOf (run .order))
 run-starts {trip = trip} tied sound = rw (← tied .order) (start-range (junctionsIn trip) (trip .order) (sound .ordered))
 
 -- a state in range has figures that one road time can be added to
@@ -160,3 +160,14 @@ module _ (trip : Trip) (sound : SoundTrip trip) (s : State) (range : RangeIn tri
   pub figures-high : T (noneAbove (wheelFigures (s .figures)) highestLimits)
   figures-high =
       above-trans _ _ _ (above-tail _ _ _ _ (legal-within (trip .order) s (range .lawful))) (limits-within (trip .order .rules) (sound .ordered .sound-rules))
+
+-- the same, of a run whose map and order are accepted
+pub drives-on : (map : List ℕ) (banned : ℕ → Bool) (run : Run) (s : State) → Accepted map run → RangeIn (tripIn map banned run) s
+    → (s .clock .0 ≤ 2000000000) × T (noneAbove (wheelFigures (s .figures)) highestLimits)
+drives-on map banned run s accepted range =
+    let sound = run-sound map banned run accepted in (clock-high _ sound s range, figures-high _ sound s range)
+
+-- the range of a trip's states, by the map and the run
+pub range-in : {map : List ℕ} {banned : ℕ → Bool} {run : Run} {trip : Trip} {s : State} → Tied map banned run trip → RangeIn trip s
+    → InRange (junctionCount map) (run .order) s
+range-in tied range = rw (← tied .junctions, ← tied .order) range

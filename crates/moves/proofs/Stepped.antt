@@ -1,6 +1,6 @@
 -- A move of each kind: what it is offered for and what it comes to. Assumes nothing.
-use mathlib.Core.Path.{_≡_, refl}
-use mathlib.Core.Bool.{true, false, _&&_}
+use mathlib.Core.Path.{_≡_, refl, sym, ap}
+use mathlib.Core.Bool.{Bool, true, false, _&&_}
 use mathlib.Core.List.{List}
 use Prim.Native.Nat.{ℕ, _≤_}
 use borrow.Author.Tests.{eq-eqb, ne-eqb, leb-true}
@@ -12,9 +12,9 @@ use Rattle.states.specs.States.{legal}
 use Rattle.moves.specs.declared.Move.{Move}
 use Rattle.moves.specs.declared.Run.{Run}
 use Rattle.moves.specs.declared.Step.{Step}
-use Rattle.moves.specs.Trip.{Trip, roadIn, roadsIn}
+use Rattle.moves.specs.Trip.{Stretch, Trip, noneBanned, roadIn, roadsIn}
 use Rattle.moves.specs.Moves.{move, leaves, mayPause, offers, driven, paused, after, judged, stepped}
-use Rattle.moves.specs.Runs.{Tied}
+use Rattle.moves.specs.Runs.{stretchIn, Tied}
 
 module _ (trip : Trip) (s : State) (m : Move) where
   pub stepped-drive : m .kind ≡ 1 →
@@ -28,7 +28,7 @@ module _ (trip : Trip) (s : State) (m : Move) where
   stepped-pause not-1 = rw (ne-eqb _ _ not-1)
 
 -- a road that leaves a junction is one of the map's
-pub leaves-range : {map : List ℕ} {run : Run} {trip : Trip} → Tied map run trip → (j r : ℕ) → leaves trip j r ≡ true → (1 ≤ r) × (r ≤ roadCount map)
+pub leaves-range : {map : List ℕ} {banned : ℕ → Bool} {run : Run} {trip : Trip} → Tied map banned run trip → (j r : ℕ) → leaves trip j r ≡ true → (1 ≤ r) × (r ≤ roadCount map)
 leaves-range {trip = trip} tied j r e =
     let range = and-true (and-true {a = leb 1 r && leb r (roadsIn trip)} e .0) in
     (leb-true _ _ (range .0), rw (tied .roads) at (leb-true r (roadsIn trip) (range .1)))
@@ -41,8 +41,13 @@ offered-road trip s m offered drive =
     let range = and-true {a = leb 1 (m .number)} (and-true {a = leb 1 (m .number) && leb (m .number) (roadsIn trip)} leaving .0) in
     (leb-true _ _ (range .0), leb-true _ _ (range .1))
 
+-- the drive of a road, by the map: a ban changes nothing of it
+pub driven-in : {map : List ℕ} {banned : ℕ → Bool} {run : Run} {trip : Trip} → Tied map banned run trip → (s : State) (r : ℕ) → (1 ≤ r) × (r ≤ roadCount map)
+    → driven (stretchIn map noneBanned run r) s ≡ driven (roadIn trip r) s
+driven-in tied s r range = ap (λ (road : Stretch). driven road s) (sym (tied .road r (range .0) (range .1)))
+
 -- what the code finds of a drive and of a pause is what the definition says
-module _ {map : List ℕ} {run : Run} {trip : Trip} (tied : Tied map run trip) (s : State) (number : ℕ) where
+module _ {map : List ℕ} {banned : ℕ → Bool} {run : Run} {trip : Trip} (tied : Tied map banned run trip) (s : State) (number : ℕ) where
   pub drive-foreign : leaves trip (s .junction) number ≡ false → Step.Foreign ≡ stepped trip s (move 1 number)
   drive-foreign e = rw (stepped-drive trip s (move 1 number) refl, e)
 

@@ -10,10 +10,11 @@ use borrow.Author.Tests.{le-leb, lt-leb, eqb-true, eqb-false}
 use lib.Dec.{eqb}
 use lib.ListN.{length, getD, set}
 use Rattle.booleans.proofs.Tests.{cases}
-use Rattle.roadmap.specs.Format.{junctionCount, roadCount, carPark, roadFrom}
+use Rattle.roadmap.specs.Format.{junctionCount, roadCount, carPark, roadFrom, roadTo}
 use Rattle.driving.specs.declared.Order.{Order}
 use Rattle.moves.specs.declared.Run.{Run}
-use Rattle.moves.specs.Trip.{Trip, stretchOf, counted, tripOf, noStretch, roadIn, parkIn, roadsIn, junctionsIn}
+use Rattle.moves.specs.Trip.{Stretch, Trip, roadTime, stretchOf, counted, tripOf, noStretch, roadIn, parkIn, roadsIn, junctionsIn}
+use Rattle.moves.specs.Bans.{AgreeOn}
 use Rattle.moves.specs.Moves.{leaves}
 use Rattle.moves.specs.Struck.{struckStretch, struckIn}
 use Rattle.moves.specs.Runs.{tripIn, stretchIn, Unstruck, Tied}
@@ -56,28 +57,28 @@ counted-set f g k (suc n) j low high same =
     (ap₂ _∷_ (same k (omega arith) (omega arith) (λ e. omega arith)) (counted-set f g (k + 1) n j (omega arith) (omega arith) (λ i l h. same i (omega arith) (omega arith)))))
     (eq-or-lt-of-le low)
 
-module _ (map : List ℕ) (order : Order) where
-  pub roads-in : roadsIn (tripOf map order) ≡ roadCount map
+module _ (map : List ℕ) (banned : ℕ → Bool) (order : Order) where
+  pub roads-in : roadsIn (tripOf map banned order) ≡ roadCount map
   unfolding tripOf
   roads-in = counted-length _ 1 (roadCount map)
 
-  pub junctions-in : junctionsIn (tripOf map order) ≡ junctionCount map
+  pub junctions-in : junctionsIn (tripOf map banned order) ≡ junctionCount map
   unfolding tripOf
   junctions-in = counted-length _ 1 (junctionCount map)
 
-  pub order-in : tripOf map order .order ≡ order
+  pub order-in : tripOf map banned order .order ≡ order
   unfolding tripOf
   order-in = refl
 
-  pub road-in : (r : ℕ) → 1 ≤ r → r ≤ roadCount map → roadIn (tripOf map order) r ≡ stretchOf map r
+  pub road-in : (r : ℕ) → 1 ≤ r → r ≤ roadCount map → roadIn (tripOf map banned order) r ≡ stretchOf map banned r
   unfolding tripOf
   road-in r low high =
-      counted-at (stretchOf map) noStretch 1 (roadCount map) (r - 1) (omega arith) ∙ ap (stretchOf map) (back r low)
+      counted-at (stretchOf map banned) noStretch 1 (roadCount map) (r - 1) (omega arith) ∙ ap (stretchOf map banned) (back r low)
     where
       back : (r : ℕ) → 1 ≤ r → 1 + (r - 1) ≡ r
       back r low = omega arith
 
-  pub park-in : (j : ℕ) → 1 ≤ j → j ≤ junctionCount map → parkIn (tripOf map order) j ≡ eqb (carPark map j) 1
+  pub park-in : (j : ℕ) → 1 ≤ j → j ≤ junctionCount map → parkIn (tripOf map banned order) j ≡ eqb (carPark map j) 1
   unfolding tripOf
   park-in j low high =
       counted-at (λ j. eqb (carPark map j) 1) false 1 (junctionCount map) (j - 1) (omega arith)
@@ -87,39 +88,47 @@ module _ (map : List ℕ) (order : Order) where
       back r low = omega arith
 
 -- all of it of the trip that contracts name
-module _ (map : List ℕ) (run : Run) where
+module _ (map : List ℕ) (banned : ℕ → Bool) (run : Run) where
   abbrev lent : Trip
-  lent = tripOf map (run .order)
+  lent = tripOf map banned (run .order)
 
-  run-road : (r : ℕ) → 1 ≤ r → r ≤ roadCount map → roadIn (tripIn map run) r ≡ stretchIn map run r
+  run-road : (r : ℕ) → 1 ≤ r → r ≤ roadCount map → roadIn (tripIn map banned run) r ≡ stretchIn map banned run r
   run-road r low high =
       ⊎-elim
       (λ (own : eqb r (run .struck) ≡ true).
       ap (λ (k : ℕ). roadIn (struckIn k lent) r) (sym (eqb-true r (run .struck) own))
-      ∙ struck-own lent r low (rw (roads-in map (run .order)) high)
-      ∙ ap struckStretch (road-in map (run .order) r low high)
+      ∙ struck-own lent r low (rw (roads-in map banned (run .order)) high)
+      ∙ ap struckStretch (road-in map banned (run .order) r low high)
       ∙ rw own refl)
       (λ (other : eqb r (run .struck) ≡ false).
-      struck-other lent (run .struck) r low (eqb-false r (run .struck) other) ∙ road-in map (run .order) r low high ∙ rw other refl)
+      struck-other lent (run .struck) r low (eqb-false r (run .struck) other) ∙ road-in map banned (run .order) r low high ∙ rw other refl)
       (cases (eqb r (run .struck)))
 
-  pub run-tied : Tied map run (tripIn map run)
+  pub run-tied : Tied map banned run (tripIn map banned run)
   run-tied =
       record {
-        junctions = ap length (struck-parks lent (run .struck)) ∙ junctions-in map (run .order);
-        roads = struck-roads lent (run .struck) ∙ roads-in map (run .order);
+        junctions = ap length (struck-parks lent (run .struck)) ∙ junctions-in map banned (run .order);
+        roads = struck-roads lent (run .struck) ∙ roads-in map banned (run .order);
         road = run-road;
-        park = λ j low high. ap (λ (l : List Bool). getD l (j - 1) false) (struck-parks lent (run .struck)) ∙ park-in map (run .order) j low high;
-        order = struck-order lent (run .struck) ∙ order-in map (run .order);
+        park = λ j low high. ap (λ (l : List Bool). getD l (j - 1) false) (struck-parks lent (run .struck)) ∙ park-in map banned (run .order) j low high;
+        order = struck-order lent (run .struck) ∙ order-in map banned (run .order);
       }
 
 -- without a struck road it is that of the map and the order
-pub unstruck-trip : {map : List ℕ} {run : Run} {order : Order} → Unstruck map run → run .order ≡ order → tripIn map run ≡ tripOf map order
+pub unstruck-trip : {map : List ℕ} (banned : ℕ → Bool) {run : Run} {order : Order} → Unstruck map run → run .order ≡ order
+    → tripIn map banned run ≡ tripOf map banned order
 unfolding struckIn
-unstruck-trip {map} opened is = ap₂ (λ (k : ℕ) (o : Order). struckIn k (tripOf map o)) (opened .none-struck) is
+unstruck-trip {map} banned opened is = ap₂ (λ (k : ℕ) (o : Order). struckIn k (tripOf map banned o)) (opened .none-struck) is
+
+-- the trip is the same, however it is told which of its roads are banned
+pub same-bans : (map : List ℕ) (p q : ℕ → Bool) (run : Run) → AgreeOn (roadCount map) p q → tripIn map p run ≡ tripIn map q run
+unfolding tripOf
+same-bans map p q run agree =
+    ap (λ (roads : List Stretch). struckIn (run .struck) (record { roads = roads; parks = tripOf map p (run .order) .parks; order = run .order }))
+    (counted-same _ _ 1 (roadCount map) (λ r low high. ap (λ (b : Bool). record { from = roadFrom map r; to = roadTo map r; seconds = roadTime map r; banned = b }) (agree r low (omega arith))))
 
 -- which roads leave a junction, by the map
-module _ {map : List ℕ} {run : Run} {trip : Trip} (tied : Tied map run trip) where
+module _ {map : List ℕ} {banned : ℕ → Bool} {run : Run} {trip : Trip} (tied : Tied map banned run trip) where
   pub leaves-zero : (j r : ℕ) → r < 1 → leaves trip j r ≡ false
   leaves-zero j r h = rw (lt-leb _ _ h)
 

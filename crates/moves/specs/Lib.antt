@@ -1,4 +1,5 @@
 pub mod Trip
+pub mod Bans
 pub mod Struck
 pub mod Moves
 pub mod Runs

@@ -12,7 +12,7 @@ use Rattle.driving.specs.Accepted.{AcceptedOrder}
 use Rattle.moves.specs.declared.Run.{Run}
 use Rattle.states.specs.declared.State.{State}
 use Rattle.states.specs.States.{legal}
-use Rattle.moves.specs.Trip.{Stretch, Trip, stretchOf, tripOf, roadIn, parkIn, roadsIn, junctionsIn}
+use Rattle.moves.specs.Trip.{Stretch, Trip, roadTime, tripOf, roadIn, parkIn, roadsIn, junctionsIn}
 use Rattle.moves.specs.Struck.{struckIn}
 
 pub record Accepted (map : List ℕ) (run : Run) : Type 0 where
@@ -26,9 +26,9 @@ pub record Unstruck (map : List ℕ) (run : Run) : Type 0 where
   pub accepted : Accepted map run
   pub none-struck : run .struck ≡ 0
 
--- the trip of the map's bytes and the run's order, with the run's road struck
-abbrev pub tripIn : List ℕ → Run → Trip
-tripIn map run = struckIn (run .struck) (tripOf map (run .order))
+-- the trip of the map's bytes, the banned roads and the run's order, with the run's road struck
+abbrev pub tripIn : List ℕ → (ℕ → Bool) → Run → Trip
+tripIn map banned run = struckIn (run .struck) (tripOf map banned (run .order))
 
 -- where a road of the map's bytes leads: a struck one back to where it begins
 abbrev pub endWhen : Bool → List ℕ → ℕ → ℕ
@@ -36,15 +36,20 @@ endWhen true map r = roadFrom map r
 endWhen false map r = roadTo map r
 
 -- the road, as the run has it
-abbrev pub stretchIn : List ℕ → Run → ℕ → Stretch
-stretchIn map run r =
-    record { from = roadFrom map r; to = endWhen (eqb r (run .struck)) map r; seconds = stretchOf map r .seconds }
+abbrev pub stretchIn : List ℕ → (ℕ → Bool) → Run → ℕ → Stretch
+stretchIn map banned run r =
+    record {
+      from = roadFrom map r;
+      to = endWhen (eqb r (run .struck)) map r;
+      seconds = roadTime map r;
+      banned = banned r;
+    }
 
--- the trip is that of the map's bytes and the run
-pub record Tied (map : List ℕ) (run : Run) (trip : Trip) : Type 0 where
+-- the trip is that of the map's bytes, the banned roads and the run
+pub record Tied (map : List ℕ) (banned : ℕ → Bool) (run : Run) (trip : Trip) : Type 0 where
   pub junctions : junctionsIn trip ≡ junctionCount map
   pub roads : roadsIn trip ≡ roadCount map
-  pub road : (r : ℕ) → 1 ≤ r → r ≤ roadCount map → roadIn trip r ≡ stretchIn map run r
+  pub road : (r : ℕ) → 1 ≤ r → r ≤ roadCount map → roadIn trip r ≡ stretchIn map banned run r
   pub park : (j : ℕ) → 1 ≤ j → j ≤ junctionCount map → parkIn trip j ≡ eqb (carPark map j) 1
   pub order : trip .order ≡ run .order
 

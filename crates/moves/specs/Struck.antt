@@ -4,7 +4,7 @@ use lib.ListN.{getD, set}
 use Rattle.moves.specs.Trip.{Stretch, Trip, noStretch}
 
 abbrev pub struckStretch : Stretch → Stretch
-struckStretch road = record { from = road .from; to = road .from; seconds = road .seconds }
+struckStretch road = record { from = road .from; to = road .from; seconds = road .seconds; banned = road .banned }
 
 -- the trip with this road struck, from 1; 0 is none
 unfoldable pub struckIn : ℕ → Trip → Trip

@@ -1,14 +1,17 @@
 // Moves: the drive and the pauses, over a map's bytes.
 ghost use mathlib.Core.Path.{_≡_};
-ghost use mathlib.Core.Bool.{true};
-ghost use Prim.Native.Nat.{_≤_};
-ghost use Rattle.roadmap.specs.Format.{roadCount};
+ghost use mathlib.Core.Bool.{Bool, true};
+ghost use Prim.Native.Nat.{ℕ, _≤_};
+ghost use lib.Dec.{T, eqb};
+ghost use Rattle.theory.specs.Figures.{noneAbove};
+ghost use Rattle.roadmap.specs.Format.{junctionCount, roadCount};
 ghost use Rattle.driving.specs.Accepted.{SoundRules};
-ghost use Rattle.driving.specs.Hours.{firstPause, lastPause};
+ghost use Rattle.driving.specs.Hours.{firstPause, lastPause, wheelFigures, highestLimits};
 ghost use Rattle.states.specs.States.{legal};
-ghost use Rattle.moves.specs.Trip.{stretchOf, roadIn};
+ghost use Rattle.moves.specs.Trip.{roadTime, noneBanned};
+ghost use Rattle.moves.specs.Bans.{listedIn};
 ghost use Rattle.moves.specs.Moves.{move, driven, paused, judged, stepped, leaves, mayPause};
-ghost use Rattle.moves.specs.Runs.{Accepted, tripIn, stretchIn, RangeIn};
+ghost use Rattle.moves.specs.Runs.{Accepted, tripIn, endWhen, stretchIn, InRange, RangeIn};
 ghost use Rattle.moves.specs.Opened.{OpenedSays};
 use driving::Order;
 use driving::Rules;
@@ -47,7 +50,7 @@ pub enum Step {
 pub fn seconds_of(map: &[u8], run: Run, r: u32) -> u32
     requires { ⌜ Accepted (now map) run ⌝ }
     requires { ⌜ (1 ≤ r) × (r ≤ roadCount (now map)) ⌝ }
-    ensures { λ w. ⌜ (w ≡ stretchOf (now (map .entry)) r .seconds) × (w ≤ 1440000) ⌝ }
+    ensures { λ w. ⌜ (w ≡ roadTime (now (map .entry)) r) × (w ≤ 1440000) ⌝ }
 {
     let sizes = run.sizes;
     let metres = roadmap::road_metres(map, sizes, r);
@@ -59,7 +62,7 @@ pub fn seconds_of(map: &[u8], run: Run, r: u32) -> u32
 fn end_of(map: &[u8], run: Run, r: u32) -> u32
     requires { ⌜ Accepted (now map) run ⌝ }
     requires { ⌜ (1 ≤ r) × (r ≤ roadCount (now map)) ⌝ }
-    ensures { λ j. ⌜ j ≡ stretchIn (now (map .entry)) run r .to ⌝ }
+    ensures { λ j. ⌜ j ≡ endWhen (eqb r (run .struck)) (now (map .entry)) r ⌝ }
 {
     if r == run.struck {
         return roadmap::road_from(map, run.sizes, r);
@@ -67,12 +70,12 @@ fn end_of(map: &[u8], run: Run, r: u32) -> u32
     roadmap::road_to(map, run.sizes, r)
 }
 
-// The state after driving road r.
+// The state after driving road r from this state on, by the road's end and its time alone.
 pub fn after_drive(map: &[u8], run: Run, state: State, r: u32) -> State
     requires { ⌜ Accepted (now map) run ⌝ }
-    requires { ⌜ RangeIn (tripIn (now map) run) state ⌝ }
+    requires { ⌜ (state .clock .0 ≤ 2000000000) × T (noneAbove (wheelFigures (state .figures)) highestLimits) ⌝ }
     requires { ⌜ (1 ≤ r) × (r ≤ roadCount (now map)) ⌝ }
-    ensures { λ s. ⌜ s ≡ driven (roadIn (tripIn (now (map .entry)) run) r) state ⌝ }
+    ensures { λ s. ⌜ s ≡ driven (stretchIn (now (map .entry)) noneBanned run r) state ⌝ }
 {
     let to = end_of(map, run, r);
     let time = seconds_of(map, run, r);
@@ -99,10 +102,10 @@ pub fn after_pause(run: Run, state: State, kind: u32) -> State
     }
 }
 
-// Whether road r, any number, leaves junction j.
+// Whether road r, any number, leaves junction j, whichever roads are banned.
 pub fn leaves_road(map: &[u8], run: Run, j: u32, r: u32) -> bool
     requires { ⌜ Accepted (now map) run ⌝ }
-    ensures { λ w. ⌜ w ≡ leaves (tripIn (now (map .entry)) run) j r ⌝ }
+    ensures { λ w. ⌜ ((banned : ℕ → Bool) → w ≡ leaves (tripIn (now (map .entry)) banned run) j r) ⌝ }
 {
     let sizes = run.sizes;
     if r < 1 {
@@ -114,11 +117,11 @@ pub fn leaves_road(map: &[u8], run: Run, j: u32, r: u32) -> bool
     roadmap::road_from(map, sizes, r) == j
 }
 
-// Whether the rules offer a pause of this kind, any number, in a state.
+// Whether the rules offer a pause of this kind, any number, in a state, whichever roads are banned.
 pub fn may_pause(map: &[u8], run: Run, state: State, kind: u32) -> bool
     requires { ⌜ Accepted (now map) run ⌝ }
-    requires { ⌜ RangeIn (tripIn (now map) run) state ⌝ }
-    ensures { λ w. ⌜ w ≡ mayPause (tripIn (now (map .entry)) run) state kind ⌝ }
+    requires { ⌜ InRange (junctionCount (now map)) (run .order) state ⌝ }
+    ensures { λ w. ⌜ ((banned : ℕ → Bool) → w ≡ mayPause (tripIn (now (map .entry)) banned run) state kind) ⌝ }
 {
     let sizes = run.sizes;
     if kind < Rules::FIRST_PAUSE {
@@ -145,10 +148,10 @@ fn judge(order: Order, state: State) -> Step
 }
 
 // The drive of road r, any number.
-pub fn drive(map: &[u8], run: Run, state: State, r: u32) -> Step
+pub fn drive(map: &[u8], bans: &[u32], run: Run, state: State, r: u32) -> Step
     requires { ⌜ Accepted (now map) run ⌝ }
-    requires { ⌜ RangeIn (tripIn (now map) run) state ⌝ }
-    ensures { λ w. ⌜ w ≡ stepped (tripIn (now (map .entry)) run) state (move 1 r) ⌝ }
+    requires { ⌜ RangeIn (tripIn (now map) (listedIn (now bans)) run) state ⌝ }
+    ensures { λ w. ⌜ w ≡ stepped (tripIn (now (map .entry)) (listedIn (now (bans .entry))) run) state (move 1 r) ⌝ }
 {
     let here = state.junction;
     if leaves_road(map, run, here, r) {
@@ -159,12 +162,12 @@ pub fn drive(map: &[u8], run: Run, state: State, r: u32) -> Step
     Step::Foreign
 }
 
-// A pause, of any kind but a drive's and at a junction of any number.
+// A pause, of any kind but a drive's and at a junction of any number, whichever roads are banned.
 pub fn pause(map: &[u8], run: Run, state: State, m: Move) -> Step
     requires { ⌜ Accepted (now map) run ⌝ }
-    requires { ⌜ RangeIn (tripIn (now map) run) state ⌝ }
+    requires { ⌜ InRange (junctionCount (now map)) (run .order) state ⌝ }
     requires { ⌜ (m .kind ≡ 1 → ⊥) ⌝ }
-    ensures { λ w. ⌜ w ≡ stepped (tripIn (now (map .entry)) run) state m ⌝ }
+    ensures { λ w. ⌜ ((banned : ℕ → Bool) → w ≡ stepped (tripIn (now (map .entry)) banned run) state m) ⌝ }
 {
     let kind = m.kind;
     if m.number != state.junction {
@@ -179,13 +182,13 @@ pub fn pause(map: &[u8], run: Run, state: State, m: Move) -> Step
 }
 
 // Any move, as a sheet may hold it.
-pub fn take_move(map: &[u8], run: Run, state: State, m: Move) -> Step
+pub fn take_move(map: &[u8], bans: &[u32], run: Run, state: State, m: Move) -> Step
     requires { ⌜ Accepted (now map) run ⌝ }
-    requires { ⌜ RangeIn (tripIn (now map) run) state ⌝ }
-    ensures { λ w. ⌜ w ≡ stepped (tripIn (now (map .entry)) run) state m ⌝ }
+    requires { ⌜ RangeIn (tripIn (now map) (listedIn (now bans)) run) state ⌝ }
+    ensures { λ w. ⌜ w ≡ stepped (tripIn (now (map .entry)) (listedIn (now (bans .entry))) run) state m ⌝ }
 {
     if m.kind == Move::DRIVE {
-        return drive(map, run, state, m.number);
+        return drive(map, bans, run, state, m.number);
     }
     pause(map, run, state, m)
 }

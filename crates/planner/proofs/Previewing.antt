@@ -25,7 +25,7 @@ use Rattle.striking.proofs.Passes.{struck-passes}
 use Rattle.driving.specs.declared.Order.{Order}
 use Rattle.driving.specs.Order.{orderOf, orderTests}
 use Rattle.states.specs.LabelSpace.{labelsThatFit}
-use Rattle.moves.specs.Trip.{Trip, tripOf}
+use Rattle.moves.specs.Trip.{Trip, noneBanned, tripOf}
 use Rattle.moves.specs.Struck.{struckIn}
 use Rattle.moves.specs.RunTests.{runTests}
 use Rattle.journeys.specs.Planning.{tripFrom, searchTests, planned, searchReply, planReply, planSheet}
@@ -47,12 +47,12 @@ module _ (map order : List ℕ) (road : ℕ) where
 
   -- and its trip is that of the map so struck
   pub struck-from : NoneFits (runTests map order) → outside 1 (roadCount map) road ≡ false → {decoded : Order} → decoded ≡ orderOf order
-      → struckIn road (tripOf map decoded) ≡ tripFrom (struck map road) order
+      → struckIn road (tripOf map noneBanned decoded) ≡ tripFrom (struck map road) order
   struck-from none inside same =
       let accepted : AcceptedMap map = none-before (mapTests map) (orderTests (junctionCount map) order) none in
       let known = within inside in
-      ap (λ (o : Order). struckIn road (tripOf map o)) same
-      ∙ sym (struck-trip map (has-whole map (accepted-sizes map accepted)) (orderOf order) road (known .above) (known .below))
+      ap (λ (o : Order). struckIn road (tripOf map noneBanned o)) same
+      ∙ sym (struck-trip map noneBanned (has-whole map (accepted-sizes map accepted)) (orderOf order) road (known .above) (known .below))
 
   module _ (words sheet : List ℕ) where
     abbrev fit : ℕ

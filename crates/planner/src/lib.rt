@@ -2,6 +2,8 @@
 ghost use mathlib.Core.Path.{_≡_};
 ghost use Prim.Native.Nat.{_≤_};
 ghost use lib.ListN.{length};
+ghost use Rattle.roadmap.specs.Format.{roadCount};
+ghost use Rattle.moves.specs.Bans.{closedIn, listedIn, AgreeOn};
 ghost use Rattle.moves.specs.Runs.{Accepted, tripIn};
 ghost use Rattle.sheets.specs.Sheet.{sheetNeeded};
 ghost use Rattle.journeys.specs.Plan.{moveCount};
@@ -20,6 +22,7 @@ use search::Outcome;
 // Writes the plan to a sheet that is long enough. The answer is the last label.
 fn write_plan(
     map: &[u8],
+    bans: &[u32],
     run: Run,
     words: &[u32],
     n: usize,
@@ -27,12 +30,12 @@ fn write_plan(
     sheet: &mut [u8],
 ) -> Planning
     requires { ⌜ Accepted (now map) run ⌝ }
-    requires { ⌜ Found (tripIn (now map) run) (now words) n ⌝ }
+    requires { ⌜ Found (tripIn (now map) (listedIn (now bans)) run) (now words) n ⌝ }
     requires { ⌜ n ≤ mostLabels ⌝ }
-    requires { ⌜ (moves ≡ moveCount (tripIn (now map) run)) × (sheetNeeded moves ≤ length (now sheet)) ⌝ }
-    ensures { λ r. ⌜ HandedBack (tripIn (now (map .entry)) run) (now (sheet .entry)) (now (sheet .exit)) r ⌝ }
+    requires { ⌜ (moves ≡ moveCount (tripIn (now map) (listedIn (now bans)) run)) × (sheetNeeded moves ≤ length (now sheet)) ⌝ }
+    ensures { λ r. ⌜ HandedBack (tripIn (now (map .entry)) (listedIn (now (bans .entry))) run) (now (sheet .entry)) (now (sheet .exit)) r ⌝ }
 {
-    readback::write_moves(map, run, words, n, moves, sheet);
+    readback::write_moves(map, bans, run, words, n, moves, sheet);
     let answer = labels::read_label(words, n);
     let labels = n as u32;
     let heading = sheets::heading_for(moves as u32, answer, labels);
@@ -42,23 +45,31 @@ fn write_plan(
 }
 
 // The plan of a search that found an answer: refused where the sheet is short (14), else written to it.
-fn hand_back(map: &[u8], run: Run, words: &[u32], n: usize, sheet: &mut [u8]) -> Planning
+fn hand_back(
+    map: &[u8],
+    bans: &[u32],
+    run: Run,
+    words: &[u32],
+    n: usize,
+    sheet: &mut [u8],
+) -> Planning
     requires { ⌜ Accepted (now map) run ⌝ }
-    requires { ⌜ Found (tripIn (now map) run) (now words) n ⌝ }
+    requires { ⌜ Found (tripIn (now map) (listedIn (now bans)) run) (now words) n ⌝ }
     requires { ⌜ n ≤ mostLabels ⌝ }
-    ensures { λ r. ⌜ HandedBack (tripIn (now (map .entry)) run) (now (sheet .entry)) (now (sheet .exit)) r ⌝ }
+    ensures { λ r. ⌜ HandedBack (tripIn (now (map .entry)) (listedIn (now (bans .entry))) run) (now (sheet .entry)) (now (sheet .exit)) r ⌝ }
 {
     let moves = readback::count_moves(words, n);
     let needed = sheets::sheet_needed(moves as u32);
     if sheet.len() < needed {
         return Planning::Refused(Refusal::ShortSheet(needed));
     }
-    write_plan(map, run, words, n, moves, sheet)
+    write_plan(map, bans, run, words, n, moves, sheet)
 }
 
 // What a search's outcome comes to, where so many labels fit: full (12), no road (13), or the plan.
 fn conclude(
     map: &[u8],
+    bans: &[u32],
     run: Run,
     words: &[u32],
     fit: usize,
@@ -67,24 +78,33 @@ fn conclude(
 ) -> Planning
     requires { ⌜ Accepted (now map) run ⌝ }
     requires { ⌜ fit ≤ mostLabels ⌝ }
-    requires { ⌜ OutcomeSays (tripIn (now map) run) fit (now words) outcome ⌝ }
-    ensures { λ r. ⌜ Concluded (tripIn (now (map .entry)) run) fit (now (sheet .entry)) (now (sheet .exit)) r ⌝ }
+    requires { ⌜ OutcomeSays (tripIn (now map) (listedIn (now bans)) run) fit (now words) outcome ⌝ }
+    ensures { λ r. ⌜ Concluded (tripIn (now (map .entry)) (listedIn (now (bans .entry))) run) fit (now (sheet .entry)) (now (sheet .exit)) r ⌝ }
 {
     match outcome {
-        Outcome::Found(n) => hand_back(map, run, words, n, sheet),
+        Outcome::Found(n) => hand_back(map, bans, run, words, n, sheet),
         Outcome::Exhausted(n) => Planning::Refused(Refusal::NoRoad(n)),
         Outcome::Full => Planning::Refused(Refusal::Full(fit)),
     }
 }
 
-// Planning of an accepted map and order.
-fn plan_run(map: &[u8], run: Run, words: &mut [u32], sheet: &mut [u8]) -> Planning
+// Planning of an accepted map and order. The search asks the bytes which roads are banned, reading the plan
+// back the list; they say the same.
+fn plan_run(
+    map: &[u8],
+    closed: &[u8],
+    bans: &[u32],
+    run: Run,
+    words: &mut [u32],
+    sheet: &mut [u8],
+) -> Planning
     requires { ⌜ Accepted (now map) run ⌝ }
-    ensures { λ r. ⌜ Concluded (tripIn (now (map .entry)) run) (labelsThatFit (length (now (words .entry)))) (now (sheet .entry)) (now (sheet .exit)) r ⌝ }
+    requires { ⌜ AgreeOn (roadCount (now map)) (closedIn (now closed)) (listedIn (now bans)) ⌝ }
+    ensures { λ r. ⌜ Concluded (tripIn (now (map .entry)) (listedIn (now (bans .entry))) run) (labelsThatFit (length (now (words .entry)))) (now (sheet .entry)) (now (sheet .exit)) r ⌝ }
 {
     let fit = states::labels_that_fit(words.len());
-    let outcome = search::search(map, run, words);
-    conclude(map, run, words, fit, outcome, sheet)
+    let outcome = search::search(map, closed, run, words);
+    conclude(map, bans, run, words, fit, outcome, sheet)
 }
 
 // Planning: the first-arriving legal plan, written to the sheet. `words` is label space.
@@ -94,7 +114,7 @@ pub fn plan(map: &[u8], order: &[u8], words: &mut [u32], sheet: &mut [u8]) -> Pl
     let opened = moves::open_run(map, order);
     match opened {
         Opened::Refused(why) => Planning::Refused(why),
-        Opened::Ready(run) => plan_run(map, run, words, sheet),
+        Opened::Ready(run) => plan_run(map, &[], &[], run, words, sheet),
     }
 }
 
@@ -111,12 +131,12 @@ pub fn preview(map: &[u8], order: &[u8], road: u32, words: &mut [u32], sheet: &m
                 return Planning::Refused(Refusal::UnknownRoad(road as usize));
             }
             let decoded = run.order;
-            let closed = Run {
+            let struck = Run {
                 sizes,
                 order: decoded,
                 struck: road,
             };
-            plan_run(map, closed, words, sheet)
+            plan_run(map, &[], &[], struck, words, sheet)
         }
     }
 }

@@ -1,6 +1,6 @@
 -- What each kind of move leads to, and which is the parent's move. Assumes nothing.
 use mathlib.Core.Path.{_≡_, _∙_, sym, ap}
-use mathlib.Core.Bool.{true, false, _&&_}
+use mathlib.Core.Bool.{Bool, true, false, _&&_}
 use mathlib.Core.List.{List}
 use mathlib.Core.Logic.{_⊎_, inl, inr, ⊎-elim}
 use mathlib.Core.Option.{some}
@@ -129,7 +129,7 @@ pub record OwnRoad (map : List ℕ) (p : State) (r : ℕ) : Type 0 where
   pub own : roadFrom map r ≡ p .junction
 
 -- what the code asks of a state reached is what the definition asks of the move
-module _ {map : List ℕ} {run : Run} {trip : Trip} (tied : Tied map run trip) (p t : State) where
+module _ {map : List ℕ} {banned : ℕ → Bool} {run : Run} {trip : Trip} (tied : Tied map banned run trip) (p t : State) where
   pub drive-leads : (r : ℕ) (s : State) → s ≡ driven (roadIn trip r) p → movesTo trip p t (move 1 r) ≡ (legal (run .order) s && sameState s t)
   unfolding after
   drive-leads r s is = rw (tied .order, is)

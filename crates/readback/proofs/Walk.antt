@@ -1,6 +1,6 @@
 -- The walk along a junction's chain: no road before the present one leads legally to t. Assumes nothing.
 use mathlib.Core.Path.{_≡_, subst}
-use mathlib.Core.Bool.{true, false}
+use mathlib.Core.Bool.{Bool, true, false}
 use mathlib.Core.List.{List}
 use mathlib.Core.Logic.{⊎-elim}
 use Prim.Native.Nat.{ℕ, _+_, _-_, _≤_, _<_}
@@ -29,7 +29,7 @@ pub record Walking (map : List ℕ) (trip : Trip) (p t : State) (r : ℕ) : Type
   -- a road that leads to t is not before r
   pub ahead : (k : ℕ) → Takes trip p t (move 1 k) → upTo (roadCount map) r ≤ k
 
-module _ {map : List ℕ} {run : Run} {trip : Trip} (tied : Tied map run trip) (p t : State) where
+module _ {map : List ℕ} {banned : ℕ → Bool} {run : Run} {trip : Trip} (tied : Tied map banned run trip) (p t : State) where
   -- from road k on the walk goes to the lowest road of the junction
   onward : (k n x : ℕ) → k + n ≡ roadCount map + 1 → LowestFrom (roadFrom map) (p .junction) k n x
       → ((c : ℕ) → Takes trip p t (move 1 c) → k ≤ c) → Walking map trip p t x

@@ -7,6 +7,7 @@ ghost use lib.ListN.{length};
 ghost use Rattle.roadmap.specs.Format.{roadCount};
 ghost use Rattle.states.specs.States.{legal, sameState};
 ghost use Rattle.driving.specs.Hours.{firstPause};
+ghost use Rattle.moves.specs.Bans.{listedIn};
 ghost use Rattle.moves.specs.Runs.{Accepted, tripIn, RangeIn};
 ghost use Rattle.sheets.specs.Sheet.{sheetNeeded};
 ghost use Rattle.sheets.specs.Written.{backward};
@@ -32,9 +33,9 @@ fn leads_to(order: Order, state: State, t: State) -> bool
 }
 
 // Whether a chain is followed past a road: it is not the chain's end, and its drive does not lead legally to t.
-fn passes_by(map: &[u8], run: Run, p: State, t: State, road: u32) -> bool
-    requires { ⌜ Accepted (now map) run × RangeIn (tripIn (now map) run) p × (road ≤ roadCount (now map)) ⌝ }
-    ensures { λ b. ⌜ b ≡ passesBy (tripIn (now (map .entry)) run) p t road ⌝ }
+fn passes_by(map: &[u8], bans: &[u32], run: Run, p: State, t: State, road: u32) -> bool
+    requires { ⌜ Accepted (now map) run × RangeIn (tripIn (now map) (listedIn (now bans)) run) p × (road ≤ roadCount (now map)) ⌝ }
+    ensures { λ b. ⌜ b ≡ passesBy (tripIn (now (map .entry)) (listedIn (now (bans .entry))) run) p t road ⌝ }
 {
     if road == 0 {
         return false;
@@ -45,22 +46,22 @@ fn passes_by(map: &[u8], run: Run, p: State, t: State, road: u32) -> bool
 }
 
 // The lowest road whose drive leads legally to t, 0 where none does. A chain lists a junction's roads rising.
-fn road_to(map: &[u8], run: Run, p: State, t: State) -> u32
+fn road_to(map: &[u8], bans: &[u32], run: Run, p: State, t: State) -> u32
     requires { ⌜ Accepted (now map) run ⌝ }
-    requires { ⌜ RangeIn (tripIn (now map) run) p ⌝ }
-    ensures { λ r. ⌜ RoadTo (tripIn (now (map .entry)) run) p t r ⌝ }
+    requires { ⌜ RangeIn (tripIn (now map) (listedIn (now bans)) run) p ⌝ }
+    ensures { λ r. ⌜ RoadTo (tripIn (now (map .entry)) (listedIn (now (bans .entry))) run) p t r ⌝ }
 {
     let mut road = chains::first_of_junction(map, p.junction);
-    while passes_by(map, run, p, t, road) {
+    while passes_by(map, bans, run, p, t, road) {
         road = chains::road_after(map, road);
     }
     road
 }
 
 // Whether the pause of this kind is offered in p and leads legally to t.
-fn pauses_to(map: &[u8], run: Run, p: State, t: State, kind: u32) -> bool
-    requires { ⌜ Accepted (now map) run × RangeIn (tripIn (now map) run) p × (firstPause ≤ kind) ⌝ }
-    ensures { λ b. ⌜ b ≡ pausesTo (tripIn (now (map .entry)) run) p t kind ⌝ }
+fn pauses_to(map: &[u8], bans: &[u32], run: Run, p: State, t: State, kind: u32) -> bool
+    requires { ⌜ Accepted (now map) run × RangeIn (tripIn (now map) (listedIn (now bans)) run) p × (firstPause ≤ kind) ⌝ }
+    ensures { λ b. ⌜ b ≡ pausesTo (tripIn (now (map .entry)) (listedIn (now (bans .entry))) run) p t kind ⌝ }
 {
     if !moves::may_pause(map, run, p, kind) {
         return false;
@@ -71,32 +72,32 @@ fn pauses_to(map: &[u8], run: Run, p: State, t: State, kind: u32) -> bool
 }
 
 // The lowest kind of pause that leads legally to t: some kind does.
-fn pause_to(map: &[u8], run: Run, p: State, t: State) -> u32
-    requires { ⌜ Accepted (now map) run × RangeIn (tripIn (now map) run) p × SomePause (tripIn (now map) run) p t ⌝ }
-    ensures { λ kind. ⌜ PauseTo (tripIn (now (map .entry)) run) p t kind ⌝ }
+fn pause_to(map: &[u8], bans: &[u32], run: Run, p: State, t: State) -> u32
+    requires { ⌜ Accepted (now map) run × RangeIn (tripIn (now map) (listedIn (now bans)) run) p × SomePause (tripIn (now map) (listedIn (now bans)) run) p t ⌝ }
+    ensures { λ kind. ⌜ PauseTo (tripIn (now (map .entry)) (listedIn (now (bans .entry))) run) p t kind ⌝ }
 {
     let mut kind = Rules::FIRST_PAUSE;
-    while !pauses_to(map, run, p, t, kind) {
+    while !pauses_to(map, bans, run, p, t, kind) {
         kind += 1;
     }
     kind
 }
 
 // The parent's move to t: the lowest kind, then the lowest road. Where no road leads there some pause does.
-pub fn move_to(map: &[u8], run: Run, p: State, t: State) -> Move
+pub fn move_to(map: &[u8], bans: &[u32], run: Run, p: State, t: State) -> Move
     requires { ⌜ Accepted (now map) run ⌝ }
-    requires { ⌜ RangeIn (tripIn (now map) run) p ⌝ }
-    requires { ⌜ SomeMove (tripIn (now map) run) p t ⌝ }
-    ensures { λ m. ⌜ moveTo (tripIn (now (map .entry)) run) p t ≡ some m ⌝ }
+    requires { ⌜ RangeIn (tripIn (now map) (listedIn (now bans)) run) p ⌝ }
+    requires { ⌜ SomeMove (tripIn (now map) (listedIn (now bans)) run) p t ⌝ }
+    ensures { λ m. ⌜ moveTo (tripIn (now (map .entry)) (listedIn (now (bans .entry))) run) p t ≡ some m ⌝ }
 {
-    let road = road_to(map, run, p, t);
+    let road = road_to(map, bans, run, p, t);
     if 0 < road {
         return Move {
             kind: Move::DRIVE,
             number: road,
         };
     }
-    let kind = pause_to(map, run, p, t);
+    let kind = pause_to(map, bans, run, p, t);
     Move {
         kind,
         number: p.junction,
@@ -118,13 +119,13 @@ pub fn count_moves(words: &[u32], n: usize) -> usize
 }
 
 // The record of the parent's move from p to t.
-fn row_for(map: &[u8], run: Run, p: State, t: State) -> Row
+fn row_for(map: &[u8], bans: &[u32], run: Run, p: State, t: State) -> Row
     requires { ⌜ Accepted (now map) run ⌝ }
-    requires { ⌜ RangeIn (tripIn (now map) run) p ⌝ }
-    requires { ⌜ SomeMove (tripIn (now map) run) p t ⌝ }
-    ensures { λ r. ⌜ RowFor (tripIn (now (map .entry)) run) p t r ⌝ }
+    requires { ⌜ RangeIn (tripIn (now map) (listedIn (now bans)) run) p ⌝ }
+    requires { ⌜ SomeMove (tripIn (now map) (listedIn (now bans)) run) p t ⌝ }
+    ensures { λ r. ⌜ RowFor (tripIn (now (map .entry)) (listedIn (now (bans .entry))) run) p t r ⌝ }
 {
-    let by = move_to(map, run, p, t);
+    let by = move_to(map, bans, run, p, t);
     let clock = t.clock;
     Row {
         kind: by.kind,
@@ -134,11 +135,19 @@ fn row_for(map: &[u8], run: Run, p: State, t: State) -> Row
 }
 
 // Writes the m records of the plan, from the last label's back along the parents.
-pub fn write_moves(map: &[u8], run: Run, words: &[u32], n: usize, m: usize, sheet: &mut [u8])
+pub fn write_moves(
+    map: &[u8],
+    bans: &[u32],
+    run: Run,
+    words: &[u32],
+    n: usize,
+    m: usize,
+    sheet: &mut [u8],
+)
     requires { ⌜ Accepted (now map) run ⌝ }
-    requires { ⌜ Found (tripIn (now map) run) (now words) n ⌝ }
-    requires { ⌜ (m ≡ moveCount (tripIn (now map) run)) × (sheetNeeded m ≤ length (now sheet)) ⌝ }
-    ensures { λ _. ⌜ now (sheet .exit) ≡ backward (planRows (tripIn (now (map .entry)) run)) 0 (now (sheet .entry)) ⌝ }
+    requires { ⌜ Found (tripIn (now map) (listedIn (now bans)) run) (now words) n ⌝ }
+    requires { ⌜ (m ≡ moveCount (tripIn (now map) (listedIn (now bans)) run)) × (sheetNeeded m ≤ length (now sheet)) ⌝ }
+    ensures { λ _. ⌜ now (sheet .exit) ≡ backward (planRows (tripIn (now (map .entry)) (listedIn (now (bans .entry))) run)) 0 (now (sheet .entry)) ⌝ }
 {
     let mut k = n;
     let mut left = m;
@@ -146,7 +155,7 @@ pub fn write_moves(map: &[u8], run: Run, words: &[u32], n: usize, m: usize, shee
         let parent = labels::parent(words, k) as usize;
         let from = labels::read_label(words, parent);
         let to = labels::read_label(words, k);
-        let row = row_for(map, run, from, to);
+        let row = row_for(map, bans, run, from, to);
         sheets::write_row(sheet, left, row);
         left -= 1;
         k = parent;

@@ -16,7 +16,7 @@ use Rattle.mapcheck.proofs.Counts.{placed-none}
 use Rattle.driving.specs.declared.Order.{Order}
 use Rattle.driving.specs.Order.{orderOf}
 use Rattle.states.specs.declared.State.{State}
-use Rattle.moves.specs.Trip.{Trip, tripOf}
+use Rattle.moves.specs.Trip.{Trip, noneBanned, tripOf}
 use Rattle.moves.specs.RunTests.{runTests}
 use Rattle.sheets.specs.declared.Heading.{Heading}
 use Rattle.sheets.specs.declared.Row.{Row}
@@ -91,16 +91,16 @@ move-numbered clocks trip sheet = by (timing clocks trip sheet) refl
     by (reached s rows) e = refl
 
 module _ (map order sheet : List ℕ) where
-  pub retiming-numbered : (out : List ℕ) → Numbered (retimingTests map order sheet out (timing false (tripOf map (orderOf order)) sheet))
-  retiming-numbered out = rw (move-numbered false (tripOf map (orderOf order)) sheet) tt
+  pub retiming-numbered : (out : List ℕ) → Numbered (retimingTests map order sheet out (timing false (tripOf map noneBanned (orderOf order)) sheet))
+  retiming-numbered out = rw (move-numbered false (tripOf map noneBanned (orderOf order)) sheet) tt
 
-  pub audit-numbered : Numbered (auditTests map order sheet (timing true (tripOf map (orderOf order)) sheet))
-  audit-numbered = rw (move-numbered true (tripOf map (orderOf order)) sheet) tt
+  pub audit-numbered : Numbered (auditTests map order sheet (timing true (tripOf map noneBanned (orderOf order)) sheet))
+  audit-numbered = rw (move-numbered true (tripOf map noneBanned (orderOf order)) sheet) tt
 
 -- what a retiming that succeeded found, from its reply's number alone
 module _ (map order sheet out : List ℕ) (number-0 : retimingReply map order sheet out .number ≡ 0) where
   abbrev found : Walk
-  found = timing false (tripOf map (orderOf order)) sheet
+  found = timing false (tripOf map noneBanned (orderOf order)) sheet
 
   none-fitting : NoneFits (retimingTests map order sheet out found)
   none-fitting = none-fitted (retimingTests map order sheet out found) _ (retiming-numbered map order sheet out) number-0
@@ -168,10 +168,10 @@ module _ (map order sheet out : List ℕ) (number-0 : retimingReply map order sh
       ∙ ap (λ (l : List ℕ). rowsOf l 1 (length true-rows)) kept-is
       ∙ prefix-rows heading true-rows out
 
-  audited-walk : timing true (tripOf map (orderOf order)) kept ≡ reached reached-state true-rows
+  audited-walk : timing true (tripOf map noneBanned (orderOf order)) kept ≡ reached reached-state true-rows
   unfolding timing
   audited-walk =
-      ap (walk true (tripOf map (orderOf order)) 1 _) rows-kept ∙ walk-again _ 1 _ (rowsOf sheet 1 (movesOn sheet)) found-reached
+      ap (walk true (tripOf map noneBanned (orderOf order)) 1 _) rows-kept ∙ walk-again _ 1 _ (rowsOf sheet 1 (movesOn sheet)) found-reached
 
   figures-true : falseFigures (headingOf kept) reached-state ≡ false
   figures-true = ap (λ (h : Heading). falseFigures h reached-state) kept-heading ∙ own-figures (headingOf sheet) reached-state

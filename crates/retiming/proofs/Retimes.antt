@@ -13,7 +13,7 @@ use Rattle.replies.specs.First.{_at_, firstOf, NoneFits, Refuses}
 use Rattle.replies.specs.Told.{succeeded, toldRefusal, toldTiming}
 use Rattle.replies.proofs.First.{none-fits, stops-at, passed-over, refusal-number}
 use Rattle.driving.specs.Order.{orderOf}
-use Rattle.moves.specs.Trip.{Trip, tripOf}
+use Rattle.moves.specs.Trip.{Trip, noneBanned, tripOf}
 use Rattle.moves.specs.RunTests.{runTests}
 use Rattle.states.specs.declared.State.{State}
 use Rattle.sheets.specs.declared.Heading.{Heading}
@@ -84,7 +84,7 @@ module _ (map order sheet before : List ℕ) where
         bytes = rw (told, ne-eqb (toldRefusal why .number) 0 (λ e. omega (arith, refusal-number why))) refl;
       }
 
-  pub retimed-opened : {trip : Trip} {after : List ℕ} {answer : Timing} → trip ≡ tripOf map (orderOf order) → NoneFits (runTests map order) →
+  pub retimed-opened : {trip : Trip} {after : List ℕ} {answer : Timing} → trip ≡ tripOf map noneBanned (orderOf order) → NoneFits (runTests map order) →
       RetimedRun trip sheet before after answer → Retimed map order sheet before after answer
   unfolding tripOf
   retimed-opened {after = after} {answer = answer} is passed run =

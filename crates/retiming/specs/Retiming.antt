@@ -14,7 +14,7 @@ use Rattle.booleans.specs.Pick.{pick}
 use Rattle.driving.specs.declared.Order.{Order}
 use Rattle.driving.specs.Order.{orderOf}
 use Rattle.states.specs.declared.State.{State}
-use Rattle.moves.specs.Trip.{Trip, tripOf}
+use Rattle.moves.specs.Trip.{Trip, noneBanned, tripOf}
 use Rattle.states.specs.States.{startOf}
 use Rattle.moves.specs.RunTests.{runTests}
 use Rattle.sheets.specs.declared.Heading.{Heading}
@@ -41,8 +41,8 @@ retimingTests map order sheet out timed =
 
 abbrev pub retimingReply : List ℕ → List ℕ → List ℕ → List ℕ → Reply
 retimingReply map order sheet out =
-    firstOf (retimingTests map order sheet out (timing false (tripOf map (orderOf order)) sheet))
-    (succeeded (movesOn sheet) (arrivalReached (timing false (tripOf map (orderOf order)) sheet)))
+    firstOf (retimingTests map order sheet out (timing false (tripOf map noneBanned (orderOf order)) sheet))
+    (succeeded (movesOn sheet) (arrivalReached (timing false (tripOf map noneBanned (orderOf order)) sheet)))
 
 -- the same moves with true figures, N copied
 abbrev pub retimedTo : Heading → Walk → List ℕ → List ℕ
@@ -53,7 +53,7 @@ retimedTo heading (reached s rows) out = sheetAfter (headingFor (heading .moves)
 abbrev pub retimedSheet : List ℕ → List ℕ → List ℕ → List ℕ → List ℕ
 retimedSheet map order sheet out =
     pick (eqb (retimingReply map order sheet out .number) 0)
-    (retimedTo (headingOf sheet) (timing false (tripOf map (orderOf order)) sheet) out)
+    (retimedTo (headingOf sheet) (timing false (tripOf map noneBanned (orderOf order)) sheet) out)
     out
 
 -- what retiming owes: its answer, and every byte of the other sheet
@@ -80,5 +80,5 @@ auditTests map order sheet timed =
 
 abbrev pub auditReply : List ℕ → List ℕ → List ℕ → Reply
 auditReply map order sheet =
-    firstOf (auditTests map order sheet (timing true (tripOf map (orderOf order)) sheet))
-    (succeeded (movesOn sheet) (arrivalReached (timing true (tripOf map (orderOf order)) sheet)))
+    firstOf (auditTests map order sheet (timing true (tripOf map noneBanned (orderOf order)) sheet))
+    (succeeded (movesOn sheet) (arrivalReached (timing true (tripOf map noneBanned (orderOf order)) sheet)))

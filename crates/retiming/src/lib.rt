@@ -5,6 +5,7 @@ ghost use mathlib.Core.List.{[], _∷_};
 ghost use Prim.Native.Nat.{_+_, _≤_, _<_};
 ghost use lib.ListN.{length};
 ghost use Rattle.replies.specs.Told.{toldTiming};
+ghost use Rattle.moves.specs.Bans.{listedIn};
 ghost use Rattle.moves.specs.Runs.{Accepted, tripIn, RangeIn};
 ghost use Rattle.sheets.specs.Sheet.{sheetNeeded};
 ghost use Rattle.sheets.specs.Written.{Whole, rowsPut};
@@ -42,16 +43,24 @@ fn judge_clock(state: State, clock: Clock, k: usize, clocks: bool) -> Walked
 }
 
 // The walk over one record, the k-th.
-fn walk_row(map: &[u8], run: Run, state: State, row: Row, k: usize, clocks: bool) -> Walked
+fn walk_row(
+    map: &[u8],
+    bans: &[u32],
+    run: Run,
+    state: State,
+    row: Row,
+    k: usize,
+    clocks: bool,
+) -> Walked
     requires { ⌜ Accepted (now map) run ⌝ }
-    requires { ⌜ RangeIn (tripIn (now map) run) state ⌝ }
-    ensures { λ r. ⌜ WalkSays (walk clocks (tripIn (now (map .entry)) run) k state (row ∷ [])) r ⌝ }
+    requires { ⌜ RangeIn (tripIn (now map) (listedIn (now bans)) run) state ⌝ }
+    ensures { λ r. ⌜ WalkSays (walk clocks (tripIn (now (map .entry)) (listedIn (now (bans .entry))) run) k state (row ∷ [])) r ⌝ }
 {
     let taken = Move {
         kind: row.kind,
         number: row.number,
     };
-    let step = moves::take_move(map, run, state, taken);
+    let step = moves::take_move(map, bans, run, state, taken);
     match step {
         Step::Foreign => Walked::Refused(Refusal::ForeignMove(k)),
         Step::Overrun => Walked::Refused(Refusal::Overrun(k)),
@@ -60,10 +69,10 @@ fn walk_row(map: &[u8], run: Run, state: State, row: Row, k: usize, clocks: bool
 }
 
 // The walk over all records of a whole sheet.
-fn walk_sheet(map: &[u8], run: Run, sheet: &[u8], clocks: bool) -> Walked
+fn walk_sheet(map: &[u8], bans: &[u32], run: Run, sheet: &[u8], clocks: bool) -> Walked
     requires { ⌜ Accepted (now map) run ⌝ }
     requires { ⌜ Whole (now sheet) ⌝ }
-    ensures { λ r. ⌜ WalkSays (timing clocks (tripIn (now (map .entry)) run) (now (sheet .entry))) r ⌝ }
+    ensures { λ r. ⌜ WalkSays (timing clocks (tripIn (now (map .entry)) (listedIn (now (bans .entry))) run) (now (sheet .entry))) r ⌝ }
 {
     let order = run.order;
     let moves = words::word(sheet, 0) as usize;
@@ -71,7 +80,7 @@ fn walk_sheet(map: &[u8], run: Run, sheet: &[u8], clocks: bool) -> Walked
     let mut k: usize = 1;
     while k <= moves {
         let row = sheets::read_row(sheet, k);
-        let walked = walk_row(map, run, state, row, k, clocks);
+        let walked = walk_row(map, bans, run, state, row, k, clocks);
         match walked {
             Walked::Refused(why) => return Walked::Refused(why),
             Walked::Reached(next) => {
@@ -84,14 +93,14 @@ fn walk_sheet(map: &[u8], run: Run, sheet: &[u8], clocks: bool) -> Walked
 }
 
 // Refusals 15 to 19: the walk over a sheet that may be torn, to its end at target.
-fn judge_sheet(map: &[u8], run: Run, sheet: &[u8], clocks: bool) -> Walked
+fn judge_sheet(map: &[u8], bans: &[u32], run: Run, sheet: &[u8], clocks: bool) -> Walked
     requires { ⌜ Accepted (now map) run ⌝ }
-    ensures { λ r. ⌜ SheetSays clocks (tripIn (now (map .entry)) run) (now (sheet .entry)) r ⌝ }
+    ensures { λ r. ⌜ SheetSays clocks (tripIn (now (map .entry)) (listedIn (now (bans .entry))) run) (now (sheet .entry)) r ⌝ }
 {
     if sheets::is_torn(sheet) {
         return Walked::Refused(Refusal::TornSheet(sheet.len()));
     }
-    let walked = walk_sheet(map, run, sheet, clocks);
+    let walked = walk_sheet(map, bans, run, sheet, clocks);
     match walked {
         Walked::Refused(why) => Walked::Refused(why),
         Walked::Reached(state) => {
@@ -118,11 +127,11 @@ fn header_is_false(heading: Heading, state: State) -> bool
     heading.week.0 != state.figures.week.0
 }
 
-fn audit_run(map: &[u8], run: Run, sheet: &[u8]) -> Timing
+fn audit_run(map: &[u8], bans: &[u32], run: Run, sheet: &[u8]) -> Timing
     requires { ⌜ Accepted (now map) run ⌝ }
-    ensures { λ r. ⌜ toldTiming r ≡ auditedRun (tripIn (now (map .entry)) run) (now (sheet .entry)) ⌝ }
+    ensures { λ r. ⌜ toldTiming r ≡ auditedRun (tripIn (now (map .entry)) (listedIn (now (bans .entry))) run) (now (sheet .entry)) ⌝ }
 {
-    let judged = judge_sheet(map, run, sheet, true);
+    let judged = judge_sheet(map, bans, run, sheet, true);
     match judged {
         Walked::Refused(why) => Timing::Refused(why),
         Walked::Reached(state) => {
@@ -146,17 +155,17 @@ pub fn audit(map: &[u8], order: &[u8], sheet: &[u8]) -> Timing
     let opened = moves::open_run(map, order);
     match opened {
         Opened::Refused(why) => Timing::Refused(why),
-        Opened::Ready(run) => audit_run(map, run, sheet),
+        Opened::Ready(run) => audit_run(map, &[], run, sheet),
     }
 }
 
 // Writes each record with its true clock, from the first on: the walk is known to reach its end.
-fn write_rows(map: &[u8], run: Run, sheet: &[u8], out: &mut [u8])
+fn write_rows(map: &[u8], bans: &[u32], run: Run, sheet: &[u8], out: &mut [u8])
     requires { ⌜ Accepted (now map) run ⌝ }
     requires { ⌜ Whole (now sheet) ⌝ }
-    requires { ⌜ Ends (timing false (tripIn (now map) run) (now sheet)) ⌝ }
+    requires { ⌜ Ends (timing false (tripIn (now map) (listedIn (now bans)) run) (now sheet)) ⌝ }
     requires { ⌜ sheetNeeded (movesOn (now sheet)) ≤ length (now out) ⌝ }
-    ensures { λ _. ⌜ now (out .exit) ≡ rowsPut 0 (rowsReached (timing false (tripIn (now (map .entry)) run) (now (sheet .entry)))) (now (out .entry)) ⌝ }
+    ensures { λ _. ⌜ now (out .exit) ≡ rowsPut 0 (rowsReached (timing false (tripIn (now (map .entry)) (listedIn (now (bans .entry))) run) (now (sheet .entry)))) (now (out .entry)) ⌝ }
 {
     let order = run.order;
     let moves = words::word(sheet, 0) as usize;
@@ -164,7 +173,7 @@ fn write_rows(map: &[u8], run: Run, sheet: &[u8], out: &mut [u8])
     let mut k: usize = 1;
     while k <= moves {
         let row = sheets::read_row(sheet, k);
-        let walked = walk_row(map, run, state, row, k, false);
+        let walked = walk_row(map, bans, run, state, row, k, false);
         match walked {
             Walked::Refused(_why) => return,
             Walked::Reached(next) => {
@@ -182,11 +191,11 @@ fn write_rows(map: &[u8], run: Run, sheet: &[u8], out: &mut [u8])
     }
 }
 
-fn retime_run(map: &[u8], run: Run, sheet: &[u8], out: &mut [u8]) -> Timing
+fn retime_run(map: &[u8], bans: &[u32], run: Run, sheet: &[u8], out: &mut [u8]) -> Timing
     requires { ⌜ Accepted (now map) run ⌝ }
-    ensures { λ r. ⌜ RetimedRun (tripIn (now (map .entry)) run) (now (sheet .entry)) (now (out .entry)) (now (out .exit)) r ⌝ }
+    ensures { λ r. ⌜ RetimedRun (tripIn (now (map .entry)) (listedIn (now (bans .entry))) run) (now (sheet .entry)) (now (out .entry)) (now (out .exit)) r ⌝ }
 {
-    let judged = judge_sheet(map, run, sheet, false);
+    let judged = judge_sheet(map, bans, run, sheet, false);
     match judged {
         Walked::Refused(why) => Timing::Refused(why),
         Walked::Reached(state) => {
@@ -195,7 +204,7 @@ fn retime_run(map: &[u8], run: Run, sheet: &[u8], out: &mut [u8]) -> Timing
             if out.len() < needed {
                 return Timing::Refused(Refusal::ShortSheet(needed));
             }
-            write_rows(map, run, sheet, out);
+            write_rows(map, bans, run, sheet, out);
             let heading = sheets::heading_for(given.moves, state, given.labels);
             sheets::put_heading(out, heading);
             let arrival = state.clock;
@@ -214,6 +223,6 @@ pub fn retime(map: &[u8], order: &[u8], sheet: &[u8], out: &mut [u8]) -> Timing
     let opened = moves::open_run(map, order);
     match opened {
         Opened::Refused(why) => Timing::Refused(why),
-        Opened::Ready(run) => retime_run(map, run, sheet, out),
+        Opened::Ready(run) => retime_run(map, &[], run, sheet, out),
     }
 }

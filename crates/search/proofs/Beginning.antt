@@ -1,5 +1,6 @@
 -- The beginning of the search in its words: the lists of no label, and the start as label 1. Assumes nothing.
 use mathlib.Core.Path.{_≡_, _∙_, sym, ap, subst}
+use mathlib.Core.Bool.{Bool}
 use mathlib.Core.List.{List, [], _∷_}
 use Prim.Native.Nat.{ℕ, _*_, _≤_, _<_}
 use native.Mathlib.Omega.{arith}
@@ -47,7 +48,7 @@ cleared ws size junctions few =
 pub hints-cleared : hintEntries ≤ length (zeros hintEntries)
 hints-cleared = omega (arith, length-replicate {A = ℕ} hintEntries 0)
 
-module _ {map : List ℕ} {run : Run} {trip : Trip} (tied : Tied map run trip) (sound : SoundTrip trip) {start : State} (is : start ≡ startOf (run .order)) where
+module _ {map : List ℕ} {banned : ℕ → Bool} {run : Run} {trip : Trip} (tied : Tied map banned run trip) (sound : SoundTrip trip) {start : State} (is : start ≡ startOf (run .order)) where
   pub start-within : RangeIn trip start
   start-within = rw is (run-starts tied sound)
 

@@ -3,6 +3,7 @@ ghost use Prim.Native.Nat.{_+_, _*_, _<_, _≤_};
 ghost use lib.Dec.{T};
 ghost use lib.ListN.{length};
 ghost use Rattle.moves.specs.Trip.{junctionsIn};
+ghost use Rattle.moves.specs.Bans.{closedIn};
 ghost use Rattle.moves.specs.Runs.{Accepted, tripIn};
 ghost use Rattle.theory.specs.States.{Covered};
 ghost use Rattle.journeys.specs.Journeys.{atTarget};
@@ -46,6 +47,7 @@ pub enum Turn {
 // Label w's candidate is covered: the label gets its next.
 fn pass_over(
     map: &[u8],
+    closed: &[u8],
     run: Run,
     words: &mut [u32],
     heads: &[u32],
@@ -57,15 +59,16 @@ fn pass_over(
     candidate: State,
 )
     requires { ⌜ Accepted (now map) run ⌝ }
-    requires { ⌜ Underway (tripIn (now map) run) (now words) (now heads) (now spells) (now shifts) n ⌝ }
-    requires { ⌜ Chosen (tripIn (now map) run) (now words) n w candidate ⌝ }
+    requires { ⌜ Underway (tripIn (now map) (closedIn (now closed)) run) (now words) (now heads) (now spells) (now shifts) n ⌝ }
+    requires { ⌜ Chosen (tripIn (now map) (closedIn (now closed)) run) (now words) n w candidate ⌝ }
     requires { ⌜ Covered covers (settled (now words) n) candidate × (hintEntries ≤ length (now hints)) ⌝ }
-    ensures { λ _. ⌜ Onward (tripIn (now (map .entry)) run) (keyAt (tripIn (now (map .entry)) run) (now (words .entry)) w) (now (words .exit)) (now (heads .entry)) (now (spells .entry)) (now (shifts .entry)) n ⌝ }
+    ensures { λ _. ⌜ Onward (tripIn (now (map .entry)) (closedIn (now (closed .entry))) run) (keyAt (tripIn (now (map .entry)) (closedIn (now (closed .entry))) run) (now (words .entry)) w) (now (words .exit)) (now (heads .entry)) (now (spells .entry)) (now (shifts .entry)) n ⌝ }
 {
     let state = labels::read_label(words, w);
     let offered = labels::read_candidate(words, w);
     let next = candidates::candidate_after(
         map,
+        closed,
         run,
         words,
         heads,
@@ -79,12 +82,13 @@ fn pass_over(
         candidate,
         offered.more,
     );
-    winners::advance(map, run, words, n, w, next);
+    winners::advance(map, closed, run, words, n, w, next);
 }
 
 // Label w's candidate is covered by none and not at target: it is label n + 1, and w is its parent.
 fn settle_label(
     map: &[u8],
+    closed: &[u8],
     run: Run,
     words: &mut [u32],
     heads: &mut [u32],
@@ -96,14 +100,15 @@ fn settle_label(
     candidate: State,
 )
     requires { ⌜ Accepted (now map) run ⌝ }
-    requires { ⌜ Underway (tripIn (now map) run) (now words) (now heads) (now spells) (now shifts) n ⌝ }
-    requires { ⌜ Chosen (tripIn (now map) run) (now words) n w candidate ⌝ }
-    requires { ⌜ (Covered covers (settled (now words) n) candidate → ⊥) × (T (atTarget (tripIn (now map) run) candidate) → ⊥) ⌝ }
+    requires { ⌜ Underway (tripIn (now map) (closedIn (now closed)) run) (now words) (now heads) (now spells) (now shifts) n ⌝ }
+    requires { ⌜ Chosen (tripIn (now map) (closedIn (now closed)) run) (now words) n w candidate ⌝ }
+    requires { ⌜ (Covered covers (settled (now words) n) candidate → ⊥) × (T (atTarget (tripIn (now map) (closedIn (now closed)) run) candidate) → ⊥) ⌝ }
     requires { ⌜ (n + 1 < 4294967296) × (labelWords * (n + 1) ≤ length (now words)) × (hintEntries ≤ length (now hints)) ⌝ }
-    ensures { λ _. ⌜ Onward (tripIn (now (map .entry)) run) (keyAt (tripIn (now (map .entry)) run) (now (words .entry)) w) (now (words .exit)) (now (heads .exit)) (now (spells .exit)) (now (shifts .exit)) (n + 1) ⌝ }
+    ensures { λ _. ⌜ Onward (tripIn (now (map .entry)) (closedIn (now (closed .entry))) run) (keyAt (tripIn (now (map .entry)) (closedIn (now (closed .entry))) run) (now (words .entry)) w) (now (words .exit)) (now (heads .exit)) (now (spells .exit)) (now (shifts .exit)) (n + 1) ⌝ }
 {
     let next = candidates::next_candidate(
         map,
+        closed,
         run,
         words,
         heads,
@@ -117,9 +122,10 @@ fn settle_label(
         candidate,
     );
     labels::add_label(words, heads, spells, shifts, n, candidate, w as u32, next);
-    winners::enter(map, run, words, n);
+    winners::enter(map, closed, run, words, n);
     pass_over(
         map,
+        closed,
         run,
         words,
         heads,
@@ -161,6 +167,7 @@ fn settle_last(
 // Label w's candidate is covered by none: it is the next label, if one more fits.
 fn settle(
     map: &[u8],
+    closed: &[u8],
     run: Run,
     words: &mut [u32],
     heads: &mut [u32],
@@ -173,11 +180,11 @@ fn settle(
     candidate: State,
 ) -> Turn
     requires { ⌜ Accepted (now map) run ⌝ }
-    requires { ⌜ Underway (tripIn (now map) run) (now words) (now heads) (now spells) (now shifts) n ⌝ }
-    requires { ⌜ Chosen (tripIn (now map) run) (now words) n w candidate ⌝ }
+    requires { ⌜ Underway (tripIn (now map) (closedIn (now closed)) run) (now words) (now heads) (now spells) (now shifts) n ⌝ }
+    requires { ⌜ Chosen (tripIn (now map) (closedIn (now closed)) run) (now words) n w candidate ⌝ }
     requires { ⌜ (Covered covers (settled (now words) n) candidate → ⊥) ⌝ }
     requires { ⌜ (n ≤ fit) × (fit ≤ mostLabels) × (labelWords * fit ≤ length (now words)) × (hintEntries ≤ length (now hints)) ⌝ }
-    ensures { λ r. ⌜ TurnSays (tripIn (now (map .entry)) run) fit (keyAt (tripIn (now (map .entry)) run) (now (words .entry)) w) n (now (words .exit)) (now (heads .exit)) (now (spells .exit)) (now (shifts .exit)) r ⌝ }
+    ensures { λ r. ⌜ TurnSays (tripIn (now (map .entry)) (closedIn (now (closed .entry))) run) fit (keyAt (tripIn (now (map .entry)) (closedIn (now (closed .entry))) run) (now (words .entry)) w) n (now (words .exit)) (now (heads .exit)) (now (spells .exit)) (now (shifts .exit)) r ⌝ }
 {
     if n == fit {
         return Turn::Full;
@@ -188,6 +195,7 @@ fn settle(
     }
     settle_label(
         map,
+        closed,
         run,
         words,
         heads,
@@ -205,6 +213,7 @@ fn settle(
 // before w did not when it was found.
 fn offer(
     map: &[u8],
+    closed: &[u8],
     run: Run,
     words: &mut [u32],
     heads: &mut [u32],
@@ -216,16 +225,17 @@ fn offer(
     w: usize,
 ) -> Turn
     requires { ⌜ Accepted (now map) run ⌝ }
-    requires { ⌜ Underway (tripIn (now map) run) (now words) (now heads) (now spells) (now shifts) n ⌝ }
-    requires { ⌜ LeastKey (tripIn (now map) run) (now words) n w × Live (tripIn (now map) run) (now words) w ⌝ }
+    requires { ⌜ Underway (tripIn (now map) (closedIn (now closed)) run) (now words) (now heads) (now spells) (now shifts) n ⌝ }
+    requires { ⌜ LeastKey (tripIn (now map) (closedIn (now closed)) run) (now words) n w × Live (tripIn (now map) (closedIn (now closed)) run) (now words) w ⌝ }
     requires { ⌜ (n ≤ fit) × (fit ≤ mostLabels) × (labelWords * fit ≤ length (now words)) × (hintEntries ≤ length (now hints)) ⌝ }
-    ensures { λ r. ⌜ TurnSays (tripIn (now (map .entry)) run) fit (keyAt (tripIn (now (map .entry)) run) (now (words .entry)) w) n (now (words .exit)) (now (heads .exit)) (now (spells .exit)) (now (shifts .exit)) r ⌝ }
+    ensures { λ r. ⌜ TurnSays (tripIn (now (map .entry)) (closedIn (now (closed .entry))) run) fit (keyAt (tripIn (now (map .entry)) (closedIn (now (closed .entry))) run) (now (words .entry)) w) n (now (words .exit)) (now (heads .exit)) (now (spells .exit)) (now (shifts .exit)) r ⌝ }
 {
     let sizes = run.sizes;
-    let candidate = winners::candidate_at(map, run, sizes, words, w);
+    let candidate = winners::candidate_at(map, closed, run, sizes, words, w);
     if labels::covered(words, heads, spells, shifts, n, w - 1, candidate) {
         pass_over(
             map,
+            closed,
             run,
             words,
             heads,
@@ -240,6 +250,7 @@ fn offer(
     }
     settle(
         map,
+        closed,
         run,
         words,
         heads,
@@ -256,6 +267,7 @@ fn offer(
 // One turn of the loop: the label with the lowest candidate, if one has any, offers it.
 fn take_turn(
     map: &[u8],
+    closed: &[u8],
     run: Run,
     words: &mut [u32],
     heads: &mut [u32],
@@ -266,9 +278,9 @@ fn take_turn(
     n: usize,
 ) -> Turn
     requires { ⌜ Accepted (now map) run ⌝ }
-    requires { ⌜ Underway (tripIn (now map) run) (now words) (now heads) (now spells) (now shifts) n ⌝ }
+    requires { ⌜ Underway (tripIn (now map) (closedIn (now closed)) run) (now words) (now heads) (now spells) (now shifts) n ⌝ }
     requires { ⌜ (n ≤ fit) × (fit ≤ mostLabels) × (labelWords * fit ≤ length (now words)) × (hintEntries ≤ length (now hints)) ⌝ }
-    ensures { λ r. ⌜ TurnSays (tripIn (now (map .entry)) run) fit (keyAt (tripIn (now (map .entry)) run) (now (words .entry)) (winnerOf (now (words .entry)) 1)) n (now (words .exit)) (now (heads .exit)) (now (spells .exit)) (now (shifts .exit)) r ⌝ }
+    ensures { λ r. ⌜ TurnSays (tripIn (now (map .entry)) (closedIn (now (closed .entry))) run) fit (keyAt (tripIn (now (map .entry)) (closedIn (now (closed .entry))) run) (now (words .entry)) (winnerOf (now (words .entry)) 1)) n (now (words .exit)) (now (heads .exit)) (now (spells .exit)) (now (shifts .exit)) r ⌝ }
 {
     let w = winners::leading(words, n);
     if w == 0 {
@@ -277,12 +289,25 @@ fn take_turn(
     if labels::own_clock(words, w) == Candidate::NO_CLOCK {
         return Turn::Exhausted;
     }
-    offer(map, run, words, heads, spells, shifts, hints, fit, n, w)
+    offer(
+        map,
+        closed,
+        run,
+        words,
+        heads,
+        spells,
+        shifts,
+        hints,
+        fit,
+        n,
+        w,
+    )
 }
 
 // Turn by turn from the first label to the end of the search.
 fn settle_all(
     map: &[u8],
+    closed: &[u8],
     run: Run,
     words: &mut [u32],
     heads: &mut [u32],
@@ -292,13 +317,24 @@ fn settle_all(
     fit: usize,
 ) -> Outcome
     requires { ⌜ Accepted (now map) run ⌝ }
-    requires { ⌜ Underway (tripIn (now map) run) (now words) (now heads) (now spells) (now shifts) 1 ⌝ }
+    requires { ⌜ Underway (tripIn (now map) (closedIn (now closed)) run) (now words) (now heads) (now spells) (now shifts) 1 ⌝ }
     requires { ⌜ (1 ≤ fit) × (fit ≤ mostLabels) × (labelWords * fit ≤ length (now words)) × (hintEntries ≤ length (now hints)) ⌝ }
-    ensures { λ r. ⌜ OutcomeSays (tripIn (now (map .entry)) run) fit (now (words .exit)) r ⌝ }
+    ensures { λ r. ⌜ OutcomeSays (tripIn (now (map .entry)) (closedIn (now (closed .entry))) run) fit (now (words .exit)) r ⌝ }
 {
     let mut n: usize = 1;
     loop {
-        let turn = take_turn(map, run, words, heads, spells, shifts, hints, fit, n);
+        let turn = take_turn(
+            map,
+            closed,
+            run,
+            words,
+            heads,
+            spells,
+            shifts,
+            hints,
+            fit,
+            n,
+        );
         match turn {
             Turn::Goes(labels) => {
                 n = labels;
@@ -313,6 +349,7 @@ fn settle_all(
 // The start is label 1, without a parent.
 fn begin(
     map: &[u8],
+    closed: &[u8],
     run: Run,
     words: &mut [u32],
     heads: &mut [u32],
@@ -322,13 +359,14 @@ fn begin(
 )
     requires { ⌜ Accepted (now map) run ⌝ }
     requires { ⌜ Lists (now words) (now heads) (now spells) (now shifts) 0 ⌝ }
-    requires { ⌜ (junctionsIn (tripIn (now map) run) < length (now heads)) × (labelWords ≤ length (now words)) × (hintEntries ≤ length (now hints)) ⌝ }
-    ensures { λ _. ⌜ Begun (tripIn (now (map .entry)) run) (now (words .exit)) (now (heads .exit)) (now (spells .exit)) (now (shifts .exit)) ⌝ }
+    requires { ⌜ (junctionsIn (tripIn (now map) (closedIn (now closed)) run) < length (now heads)) × (labelWords ≤ length (now words)) × (hintEntries ≤ length (now hints)) ⌝ }
+    ensures { λ _. ⌜ Begun (tripIn (now (map .entry)) (closedIn (now (closed .entry))) run) (now (words .exit)) (now (heads .exit)) (now (spells .exit)) (now (shifts .exit)) ⌝ }
 {
     let order = run.order;
     let start = states::start_of(order);
     let next = candidates::next_candidate(
         map,
+        closed,
         run,
         words,
         heads,
@@ -342,13 +380,14 @@ fn begin(
         start,
     );
     labels::add_label(words, heads, spells, shifts, 0, start, 0, next);
-    winners::enter(map, run, words, 0);
+    winners::enter(map, closed, run, words, 0);
 }
 
 // The search with room for so many labels, at least one. Which junctions have labels stands in three
 // arrays, one word a junction; all 0, they say that none has.
 fn search_in(
     map: &[u8],
+    closed: &[u8],
     run: Run,
     words: &mut [u32],
     fit: usize,
@@ -359,21 +398,21 @@ fn search_in(
 ) -> Outcome
     requires { ⌜ Accepted (now map) run ⌝ }
     requires { ⌜ (1 ≤ fit) × (fit ≤ mostLabels) × (labelWords * fit ≤ length (now words)) × (hintEntries ≤ length (now hints)) ⌝ }
-    requires { ⌜ Lists (now words) (now heads) (now spells) (now shifts) 0 × (junctionsIn (tripIn (now map) run) < length (now heads)) ⌝ }
-    ensures { λ r. ⌜ OutcomeSays (tripIn (now (map .entry)) run) fit (now (words .exit)) r ⌝ }
+    requires { ⌜ Lists (now words) (now heads) (now spells) (now shifts) 0 × (junctionsIn (tripIn (now map) (closedIn (now closed)) run) < length (now heads)) ⌝ }
+    ensures { λ r. ⌜ OutcomeSays (tripIn (now (map .entry)) (closedIn (now (closed .entry))) run) fit (now (words .exit)) r ⌝ }
 {
-    begin(map, run, words, heads, spells, shifts, hints);
+    begin(map, closed, run, words, heads, spells, shifts, hints);
     if run.order.source == run.order.target {
         return Outcome::Found(1);
     }
-    settle_all(map, run, words, heads, spells, shifts, hints, fit)
+    settle_all(map, closed, run, words, heads, spells, shifts, hints, fit)
 }
 
 // With arrays for any map.
-fn search_many(map: &[u8], run: Run, words: &mut [u32], fit: usize) -> Outcome
+fn search_many(map: &[u8], closed: &[u8], run: Run, words: &mut [u32], fit: usize) -> Outcome
     requires { ⌜ Accepted (now map) run ⌝ }
     requires { ⌜ (1 ≤ fit) × (fit ≤ mostLabels) × (labelWords * fit ≤ length (now words)) ⌝ }
-    ensures { λ r. ⌜ OutcomeSays (tripIn (now (map .entry)) run) fit (now (words .exit)) r ⌝ }
+    ensures { λ r. ⌜ OutcomeSays (tripIn (now (map .entry)) (closedIn (now (closed .entry))) run) fit (now (words .exit)) r ⌝ }
 {
     let mut heads = [0u32; Sizes::JUNCTION_ENTRIES];
     let mut spells = [0u32; Sizes::JUNCTION_ENTRIES];
@@ -381,6 +420,7 @@ fn search_many(map: &[u8], run: Run, words: &mut [u32], fit: usize) -> Outcome
     let mut hints = [0u32; candidates::HINT_ENTRIES];
     search_in(
         map,
+        closed,
         run,
         words,
         fit,
@@ -392,11 +432,11 @@ fn search_many(map: &[u8], run: Run, words: &mut [u32], fit: usize) -> Outcome
 }
 
 // With arrays for a small map.
-fn search_few(map: &[u8], run: Run, words: &mut [u32], fit: usize) -> Outcome
+fn search_few(map: &[u8], closed: &[u8], run: Run, words: &mut [u32], fit: usize) -> Outcome
     requires { ⌜ Accepted (now map) run ⌝ }
     requires { ⌜ (1 ≤ fit) × (fit ≤ mostLabels) × (labelWords * fit ≤ length (now words)) ⌝ }
-    requires { ⌜ junctionsIn (tripIn (now map) run) < fewEntries ⌝ }
-    ensures { λ r. ⌜ OutcomeSays (tripIn (now (map .entry)) run) fit (now (words .exit)) r ⌝ }
+    requires { ⌜ junctionsIn (tripIn (now map) (closedIn (now closed)) run) < fewEntries ⌝ }
+    ensures { λ r. ⌜ OutcomeSays (tripIn (now (map .entry)) (closedIn (now (closed .entry))) run) fit (now (words .exit)) r ⌝ }
 {
     let mut heads = [0u32; FEW_ENTRIES];
     let mut spells = [0u32; FEW_ENTRIES];
@@ -404,6 +444,7 @@ fn search_few(map: &[u8], run: Run, words: &mut [u32], fit: usize) -> Outcome
     let mut hints = [0u32; candidates::HINT_ENTRIES];
     search_in(
         map,
+        closed,
         run,
         words,
         fit,
@@ -415,25 +456,31 @@ fn search_few(map: &[u8], run: Run, words: &mut [u32], fit: usize) -> Outcome
 }
 
 // The same, with arrays by the map's size.
-fn search_labels(map: &[u8], run: Run, words: &mut [u32], fit: usize) -> Outcome
+fn search_labels(map: &[u8], closed: &[u8], run: Run, words: &mut [u32], fit: usize) -> Outcome
     requires { ⌜ Accepted (now map) run ⌝ }
     requires { ⌜ (1 ≤ fit) × (fit ≤ mostLabels) × (labelWords * fit ≤ length (now words)) ⌝ }
-    ensures { λ r. ⌜ OutcomeSays (tripIn (now (map .entry)) run) fit (now (words .exit)) r ⌝ }
+    ensures { λ r. ⌜ OutcomeSays (tripIn (now (map .entry)) (closedIn (now (closed .entry))) run) fit (now (words .exit)) r ⌝ }
 {
     if (run.sizes.junctions as usize) < FEW_ENTRIES {
-        return search_few(map, run, words, fit);
+        return search_few(map, closed, run, words, fit);
     }
-    search_many(map, run, words, fit)
+    search_many(map, closed, run, words, fit)
 }
 
 // The search of an accepted run in lent words: only the labels that fit are touched.
-pub fn search(map: &[u8], run: Run, words: &mut [u32]) -> Outcome
+pub fn search(map: &[u8], closed: &[u8], run: Run, words: &mut [u32]) -> Outcome
     requires { ⌜ Accepted (now map) run ⌝ }
-    ensures { λ r. ⌜ Searched (tripIn (now (map .entry)) run) (now (words .entry)) (now (words .exit)) r ⌝ }
+    ensures { λ r. ⌜ Searched (tripIn (now (map .entry)) (closedIn (now (closed .entry))) run) (now (words .entry)) (now (words .exit)) r ⌝ }
 {
     let fit = states::labels_that_fit(words.len());
     if fit == 0 {
         return Outcome::Full;
     }
-    search_labels(map, run, &mut words[0..State::LABEL_WORDS * fit], fit)
+    search_labels(
+        map,
+        closed,
+        run,
+        &mut words[0..State::LABEL_WORDS * fit],
+        fit,
+    )
 }

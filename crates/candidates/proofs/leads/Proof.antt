@@ -7,6 +7,7 @@ use lib.Dec.{T}
 use Rattle.booleans.proofs.Tests.{not-both, true-T}
 use Rattle.states.specs.declared.State.{State}
 use Rattle.states.specs.States.{covers}
+use Rattle.moves.specs.Bans.{closedIn}
 use Rattle.moves.specs.Runs.{tripIn}
 use Rattle.moves.proofs.Trips.{run-tied}
 use Rattle.candidates.specs.Candidates.{resultAt}
@@ -17,18 +18,18 @@ use Rattle.candidates.proofs.leads.Tie as tie
 
 -- from where the label is read to where the function starts
 abbrev start : tie.After-read-label → tie.Start
-start c = c .before .before .before .before .before .before .before
+start c = c .before .before .before .before .before .before .before .before
 
 read-label-requires : tie.Need-read-label-requires
 read-label-requires c κs =
-    let s = c .before .before .before .before .before .before in
+    let s = c .before .before .before .before .before .before .before in
     (omega (arith, c .before .before .if1 .left), omega (arith, s .pre .1 .0 .1, c .if2 .left))
 
 allowed-requires : tie.Need-allowed-requires
 allowed-requires c κs =
     let s = start c in
     let worth = s .pre .1 .1 .0 (omega (arith, c .before .before .before .if1 .left)) in
-    omega (arith, worth .high, run-tied (s .args .map .now) (s .args .run) .roads, s .pre .0 .sized .roads)
+    omega (arith, worth .high, run-tied (s .args .map .now) (closedIn (s .args .closed .now)) (s .args .run) .roads, s .pre .0 .sized .roads)
 
 result-at-requires : tie.Need-result-at-requires
 result-at-requires c κs =
@@ -47,9 +48,9 @@ returns-4 c told =
     let low : 1 ≤ s .args .by .label = omega (arith, at .before .before .before .if1 .left) in
     let a = s .args in
     let cursor = a .by .cursor in
-    preceded (run-tied (a .map .now) (a .run)) (s .pre .0 .sized .roads) low (omega (arith, at .before .if2 .left)) (s .pre .1 .1 .0 low)
+    preceded (run-tied (a .map .now) (closedIn (a .closed .now)) (a .run)) (s .pre .0 .sized .roads) low (omega (arith, at .before .if2 .left)) (s .pre .1 .1 .0 low)
     (ap (λ (l : State). allowed (a .run) l cursor) (sym (at .read-label .ensures)) ∙ sym (asked .allowed .ensures) ∙ not-false _ (led .before .if3 .left)) (s .pre .1 .1 .1)
-    (subst (λ (l : State). T (covers (resultAt (tripIn (a .map .now) (a .run)) l cursor) (a .reached))) (at .read-label .ensures)
+    (subst (λ (l : State). T (covers (resultAt (tripIn (a .map .now) (closedIn (a .closed .now)) (a .run)) l cursor) (a .reached))) (at .read-label .ensures)
     (subst (λ (z : State). T (covers z (a .reached))) (led .result-at .ensures) (true-T (sym (c .covers .ensures) ∙ told))))
 
 pub leads-spec : {M : Type 1} → statement M

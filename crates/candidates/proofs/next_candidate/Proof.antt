@@ -4,6 +4,7 @@ use Prim.Native.Nat.{_+_, _-_, _≤_}
 use native.Mathlib.Omega.{arith}
 use lib.ListN.{length}
 use Rattle.driving.specs.Hours.{lastPause}
+use Rattle.moves.specs.Bans.{closedIn}
 use Rattle.moves.specs.Trip.{roadsIn}
 use Rattle.moves.specs.Runs.{tripIn}
 use Rattle.labels.specs.LabelWords.{settled}
@@ -15,33 +16,33 @@ use Rattle.candidates.proofs.next_candidate.Statement.{statement}
 use Rattle.candidates.proofs.next_candidate.Tie as tie
 
 abbrev Inv-loop : tie.InvT-loop
-Inv-loop map run words heads spells shifts hints₀ n before last state bound tied best₀ cursor₀ hints best cursor =
-    (1 ≤ cursor → Worth (tripIn map run) state cursor) × BestBelow (tripIn map run) (settled words n) before state bound cursor best × (length hints ≡ length hints₀)
+Inv-loop map closed run words heads spells shifts hints₀ n before last state bound tied best₀ cursor₀ hints best cursor =
+    (1 ≤ cursor → Worth (tripIn map (closedIn closed) run) state cursor) × BestBelow (tripIn map (closedIn closed) run) (settled words n) before state bound cursor best × (length hints ≡ length hints₀)
 
 abbrev μ-loop : tie.MeasureT-loop
-μ-loop map run words heads spells shifts hints₀ n before last state bound tied best₀ cursor₀ hints best cursor =
-    let last = roadsIn (tripIn map run) + (lastPause - 1) in
+μ-loop map closed run words heads spells shifts hints₀ n before last state bound tied best₀ cursor₀ hints best cursor =
+    let last = roadsIn (tripIn map (closedIn closed) run) + (lastPause - 1) in
     last + 1 - upTo last cursor
 
 shares-clock-requires : tie.Need-shares-clock-requires Inv-loop μ-loop
 shares-clock-requires c κs =
-    let s = c .before .before .before .before .before .before in
+    let s = c .before .before .before .before .before .before .before in
     omega (arith, s .pre .1 .1 .0 .0 .room, s .pre .1 .1 .1 .0)
 
 first-cursor-requires : tie.Need-first-cursor-requires Inv-loop μ-loop
 first-cursor-requires c κs =
-    let s = c .before .before .before .before .before .before .before in
+    let s = c .before .before .before .before .before .before .before .before in
     (s .pre .0, s .pre .1 .0)
 
 loop-holds : tie.Need-loop-holds Inv-loop μ-loop
 loop-holds c =
-    let a = c .before .before .before .before .before .before .before .before .args in
+    let a = c .before .before .before .before .before .before .before .before .before .args in
     let follows = c .first-cursor .ensures in
     (follows .worth, tried-over follows (tried-none _ _ (a .before) (a .state) (a .bound)), refl)
 
 -- from where the loop is tested to where the function starts
 abbrev start : tie.In-loop Inv-loop μ-loop → tie.Start Inv-loop μ-loop
-start c = c .before .before .before .before .before .before .before .before .before .before
+start c = c .before .before .before .before .before .before .before .before .before .before .before
 
 weigh-requires : tie.Need-weigh-requires Inv-loop μ-loop
 weigh-requires c κs =
@@ -63,7 +64,7 @@ loop-less c =
     let l = tested .before .loop in
     let a = start tested .args in
     let worth = l .inv .0 (tested .loop-test .taken) in
-    nearer (roadsIn (tripIn (a .map .now) (a .run)) + (lastPause - 1)) (l .cursor) (c .following .result) (worth .low) (omega (arith, worth .high)) (c .following .ensures .rises)
+    nearer (roadsIn (tripIn (a .map .now) (closedIn (a .closed .now)) (a .run)) + (lastPause - 1)) (l .cursor) (c .following .result) (worth .low) (omega (arith, worth .high)) (c .following .ensures .rises)
 
 loop-again : tie.Need-loop-again Inv-loop μ-loop
 loop-again c =

@@ -5,6 +5,7 @@ use borrow.Author.Needs.{needs}
 use borrow.Author.Tests.{not-true, not-false}
 use Rattle.booleans.proofs.Tests.{not-both}
 use Rattle.labels.specs.Lists.{Says}
+use Rattle.moves.specs.Bans.{closedIn}
 use Rattle.moves.specs.Runs.{tripIn}
 use Rattle.moves.proofs.Trips.{run-tied}
 use Rattle.moves.proofs.Rising.{run-sound, range-after}
@@ -17,32 +18,32 @@ use Rattle.candidates.proofs.weigh.Tie as tie
 
 allowed-requires : tie.Need-allowed-requires
 allowed-requires c κs =
-    let s = c .before .before .before .before .before .before in
-    omega (arith, s .pre .1 .1 .1 .1 .0 .high, run-tied (s .args .map .now) (s .args .run) .roads, s .pre .0 .sized .roads)
+    let s = c .before .before .before .before .before .before .before in
+    omega (arith, s .pre .1 .1 .1 .1 .0 .high, run-tied (s .args .map .now) (closedIn (s .args .closed .now)) (s .args .run) .roads, s .pre .0 .sized .roads)
 
 returns : tie.Need-returns
 returns c =
     let asked = c .before in
-    let s = asked .before .before .before .before .before .before .before in
+    let s = asked .before .before .before .before .before .before .before .before in
     let a = s .args in
     kept-unnamed (s .pre .1 .1 .1 .1 .1)
-    (λ named. not-both (allowed-offers (run-tied (a .map .now) (a .run)) (s .pre .0 .sized .roads) (s .pre .1 .1 .1 .1 .0) ∙ named .offered) (sym (asked .allowed .ensures) ∙ not-true _ (c .if1 .taken)))
+    (λ named. not-both (allowed-offers (run-tied (a .map .now) (closedIn (a .closed .now)) (a .run)) (s .pre .0 .sized .roads) (s .pre .1 .1 .1 .1 .0) ∙ named .offered) (sym (asked .allowed .ensures) ∙ not-true _ (c .if1 .taken)))
 
 result-at-requires : tie.Need-result-at-requires
 result-at-requires c κs =
-    let s = c .before .before .before .before .before .before .before .before in
+    let s = c .before .before .before .before .before .before .before .before .before in
     (s .pre .0, (s .pre .1 .0, (s .pre .1 .1 .1 .1 .0 .low, s .pre .1 .1 .1 .1 .0 .high)))
 
 -- from where the move's result is known to where the function starts
 abbrev start : tie.After-result-at → tie.Start
-start c = c .before .before .before .before .before .before .before .before .before
+start c = c .before .before .before .before .before .before .before .before .before .before
 
 -- legal or not, it is later than the best
 returns-2 : tie.Need-returns-2
 returns-2 c =
     let led = c .before .before .before .before in
     let s = start led in
-    kept-later (s .pre .1 .1 .1 .1 .1) (run-sound (s .args .map .now) (s .args .run) (s .pre .0)) (c .before .before .before .if2 .taken)
+    kept-later (s .pre .1 .1 .1 .1 .1) (run-sound (s .args .map .now) (closedIn (s .args .closed .now)) (s .args .run) (s .pre .0)) (c .before .before .before .if2 .taken)
     (rw (led .result-at .ensures) at (c .if3 .taken))
 
 returns-3 : tie.Need-returns-3
@@ -51,18 +52,18 @@ returns-3 c =
     let s = start led in
     let a = s .args in
     kept-unnamed (s .pre .1 .1 .1 .1 .1)
-    (λ named. not-both (named .lawful) (rw (← led .result-at .ensures, run-tied (a .map .now) (a .run) .order) (sym (c .before .is-legal .ensures) ∙ not-true _ (c .if4 .taken))))
+    (λ named. not-both (named .lawful) (rw (← led .result-at .ensures, run-tied (a .map .now) (closedIn (a .closed .now)) (a .run) .order) (sym (c .before .is-legal .ensures) ∙ not-true _ (c .if4 .taken))))
 
 -- the cursor names a legal move
 named : (c : tie.Else4) →
     let s = start (c .before .before .before) in
-    Names (tripIn (s .args .map .now) (s .args .run)) (s .args .state) (s .args .cursor)
+    Names (tripIn (s .args .map .now) (closedIn (s .args .closed .now)) (s .args .run)) (s .args .state) (s .args .cursor)
 named c =
     let led = c .before .before .before in
     let asked = led .before .before in
     let s = start led in
     let a = s .args in
-    let tied = run-tied (a .map .now) (a .run) in
+    let tied = run-tied (a .map .now) (closedIn (a .closed .now)) (a .run) in
     let worth = s .pre .1 .1 .1 .1 .0 in
     record {
       low = worth .low;
@@ -84,8 +85,8 @@ covered-requires c κs =
     let s = start led in
     let a = s .args in
     let one = named legal in
-    let trip = tripIn (a .map .now) (a .run) in
-    ((s .pre .1 .1 .0 .0, rw (led .result-at .ensures) (omega (arith, s .pre .1 .1 .0 .1, range-after trip (run-sound (a .map .now) (a .run) (s .pre .0)) (a .state) (moveAt trip (a .state) (a .cursor)) (one .offered) (s .pre .1 .0) (one .lawful) .high))), (omega arith, none-covers (a .words .now) _))
+    let trip = tripIn (a .map .now) (closedIn (a .closed .now)) (a .run) in
+    ((s .pre .1 .1 .0 .0, rw (led .result-at .ensures) (omega (arith, s .pre .1 .1 .0 .1, range-after trip (run-sound (a .map .now) (closedIn (a .closed .now)) (a .run) (s .pre .0)) (a .state) (moveAt trip (a .state) (a .cursor)) (one .offered) (s .pre .1 .0) (one .lawful) .high))), (omega arith, none-covers (a .words .now) _))
 
 returns-5 : tie.Need-returns-5
 returns-5 c =

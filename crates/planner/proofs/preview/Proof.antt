@@ -1,9 +1,10 @@
 -- The run that is opened is planned with the road struck, which is a run of planning on the struck map.
-use mathlib.Core.Path.{_≡_, _∙_, sym, subst}
+use mathlib.Core.Path.{_≡_, _∙_, refl, sym, subst}
 use borrow.Author.Needs.{needs}
 use Rattle.roadmap.specs.Format.{roadCount}
 use Rattle.mapcheck.specs.MapCheck.{outside}
 use Rattle.mapcheck.proofs.Counts.{within}
+use Rattle.theory.specs.Lists.{memb}
 use Rattle.striking.specs.Striking.{struck}
 use Rattle.moves.specs.declared.Opened.{Opened}
 use Rattle.moves.specs.Opened.{OpenedSays}
@@ -34,15 +35,18 @@ returns c =
     preview-unknown (a .map .now) (a .order .now) (a .road) (a .words .now) (a .sheet .now) (ready (c .before) .2) (judged (c .before) ∙ c .if1 .taken)
 
 plan-run-requires : tie.Need-plan-run-requires
+unfolding memb
 plan-run-requires c κs =
-    let left = c .before .before .before in
-    let accepted = ready (left .before) .0 .accepted in
-    record {
-      sized = accepted .sized;
-      mapped = accepted .mapped;
-      ordered = accepted .ordered;
-      known = within (judged (left .before) ∙ left .if1 .left) .below;
-    }
+    let left = c .before .before .before .before .before in
+    let accepted = ready (left .before) .0 .accepted in (
+      record {
+        sized = accepted .sized;
+        mapped = accepted .mapped;
+        ordered = accepted .ordered;
+        known = within (judged (left .before) ∙ left .if1 .left) .below;
+      },
+      λ r low high. refl,
+    )
 
 returns-2 : tie.Need-returns-2
 returns-2 c =
@@ -50,9 +54,10 @@ returns-2 c =
     preview-refused (a .map .now) (a .order .now) (a .road) (a .words .now) (a .sheet .now) _ (subst (OpenedSays (a .map .now) (a .order .now)) (c .before .opened .given .1) (c .before .before .before .open-run .ensures))
 
 returns-3 : tie.Need-returns-3
+unfolding memb
 returns-3 c =
     let planned = c .before .before .before .before in
-    let left = planned .before .before .before .before in
+    let left = planned .before .before .before .before .before .before in
     let a = left .before .before .before .before .before .before .before .before .before .before .before .args in
     let opened = ready (left .before) in
     let inside = judged (left .before) ∙ left .if1 .left in
@@ -71,6 +76,8 @@ preview-spec =
     (λ c. search needs)
     (λ c κs. search needs)
     returns
+    (λ c. refl)
+    (λ c. refl)
     plan-run-requires
     returns-2
     (λ c. search needs)

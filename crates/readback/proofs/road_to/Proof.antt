@@ -2,6 +2,7 @@
 use mathlib.Core.Path.{_∙_, sym}
 use Prim.Native.Nat.{_+_, _-_, _≤_}
 use Rattle.roadmap.specs.Format.{roadCount, nextRoad}
+use Rattle.moves.specs.Bans.{listedIn}
 use Rattle.moves.specs.Runs.{tripIn}
 use Rattle.moves.proofs.Trips.{run-tied}
 use Rattle.chains.proofs.Standing.{junction-on, road-on}
@@ -11,36 +12,36 @@ use Rattle.readback.proofs.road_to.Statement.{statement}
 use Rattle.readback.proofs.road_to.Tie as tie
 
 abbrev Inv-loop : tie.InvT-loop
-Inv-loop map run p t road₀ road = Walking map (tripIn map run) p t road
+Inv-loop map bans run p t road₀ road = Walking map (tripIn map (listedIn bans) run) p t road
 
 abbrev μ-loop : tie.MeasureT-loop
-μ-loop map run p t road₀ road = roadCount map + 1 - upTo (roadCount map) road
+μ-loop map bans run p t road₀ road = roadCount map + 1 - upTo (roadCount map) road
 
 first-of-junction-requires : tie.Need-first-of-junction-requires Inv-loop μ-loop
 first-of-junction-requires c κs =
-    let s = c .before in
-    junction-on (s .pre .0 .sized) (s .pre .1 .low) (rw (run-tied (s .args .map .now) (s .args .run) .junctions) at (s .pre .1 .high))
+    let s = c .before .before in
+    junction-on (s .pre .0 .sized) (s .pre .1 .low) (rw (run-tied (s .args .map .now) (listedIn (s .args .bans .now)) (s .args .run) .junctions) at (s .pre .1 .high))
 
 loop-holds : tie.Need-loop-holds Inv-loop μ-loop
 loop-holds c =
-    let s = c .before .before in
+    let s = c .before .before .before in
     let args = s .args in
-    rw (c .first-of-junction .ensures) (walk-first (run-tied (args .map .now) (args .run)) (args .p) (args .t) (s .pre .0 .mapped) (s .pre .1))
+    rw (c .first-of-junction .ensures) (walk-first (run-tied (args .map .now) (listedIn (args .bans .now)) (args .run)) (args .p) (args .t) (s .pre .0 .mapped) (s .pre .1))
 
 passes-by-requires : tie.Need-passes-by-requires Inv-loop μ-loop
-passes-by-requires c κs = let s = c .before .before .before in (s .pre .0, s .pre .1, c .loop .inv .within)
+passes-by-requires c κs = let s = c .before .before .before .before in (s .pre .0, s .pre .1, c .loop .inv .within)
 
 abbrev start : tie.Then1 Inv-loop μ-loop → tie.Start Inv-loop μ-loop
-start c = c .before .before .before .before .before
+start c = c .before .before .before .before .before .before
 
 -- the road reached is passed by: it is one of the chain's, and the walk goes on at the next
 onward : (c : tie.Then1 Inv-loop μ-loop) →
     let args = start c .args in
     let road = c .before .before .loop .road in
-    (1 ≤ road) × Walking (args .map .now) (tripIn (args .map .now) (args .run)) (args .p) (args .t) (nextRoad (args .map .now) road)
+    (1 ≤ road) × Walking (args .map .now) (tripIn (args .map .now) (listedIn (args .bans .now)) (args .run)) (args .p) (args .t) (nextRoad (args .map .now) road)
 onward c =
     let args = start c .args in
-    walk-on (run-tied (args .map .now) (args .run)) (args .p) (args .t) (start c .pre .0 .mapped) (c .before .before .loop .road) (c .before .before .loop .inv)
+    walk-on (run-tied (args .map .now) (listedIn (args .bans .now)) (args .run)) (args .p) (args .t) (start c .pre .0 .mapped) (c .before .before .loop .road) (c .before .before .loop .inv)
     (sym (c .before .passes-by .ensures) ∙ c .if1 .taken)
 
 road-after-requires : tie.Need-road-after-requires Inv-loop μ-loop
@@ -57,8 +58,8 @@ loop-again c = rw (c .road-after .ensures) (onward (c .before) .1)
 
 returns : tie.Need-returns Inv-loop μ-loop
 returns c =
-    let args = c .before .before .before .before .before .args in
-    walk-stops (run-tied (args .map .now) (args .run)) (args .p) (args .t) (c .before .before .loop .road) (c .before .before .loop .inv)
+    let args = c .before .before .before .before .before .before .args in
+    walk-stops (run-tied (args .map .now) (listedIn (args .bans .now)) (args .run)) (args .p) (args .t) (c .before .before .loop .road) (c .before .before .loop .inv)
     (sym (c .before .passes-by .ensures) ∙ c .if1 .left)
 
 pub road-to-spec : {M : Type 1} → statement M

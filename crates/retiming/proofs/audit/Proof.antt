@@ -1,7 +1,8 @@
 use borrow.Author.Needs.{needs}
 use mathlib.Core.Path.{_∙_, sym, ap, subst}
+use Rattle.theory.specs.Lists.{memb}
 use Rattle.replies.proofs.First.{none-fits}
-use Rattle.moves.specs.Trip.{Trip, tripOf}
+use Rattle.moves.specs.Trip.{Trip, noneBanned, tripOf}
 use Rattle.moves.specs.RunTests.{runTests}
 use Rattle.moves.specs.Opened.{OpenedSays}
 use Rattle.moves.proofs.Trips.{unstruck-trip}
@@ -11,9 +12,10 @@ use Rattle.retiming.proofs.audit.Tie as tie
 
 audit-run-requires : tie.Need-audit-run-requires
 audit-run-requires c κs =
-    let opened = c .before .before .before in
+    let told = c .before in
+    let opened = told .before .before .before in
     let args = opened .before .before .before .before .args in
-    subst (OpenedSays (args .map .now) (args .order .now)) (c .before .opened2 .given .1) (opened .open-run .ensures) .0 .accepted
+    subst (OpenedSays (args .map .now) (args .order .now)) (told .before .opened2 .given .1) (opened .open-run .ensures) .0 .accepted
 
 returns : tie.Need-returns
 returns c =
@@ -22,14 +24,14 @@ returns c =
     sym (subst (OpenedSays (args .map .now) (args .order .now)) (c .before .opened .given .1) (opened .open-run .ensures) _ _)
 
 returns-2 : tie.Need-returns-2
-unfolding tripOf
+unfolding tripOf memb
 returns-2 c =
-    let told = c .before in
+    let told = c .before .before in
     let opened = told .before .before .before in
     let args = opened .before .before .before .before .args in
     let ready = subst (OpenedSays (args .map .now) (args .order .now)) (told .before .opened2 .given .1) (opened .open-run .ensures) in
     c .audit-run .ensures
-    ∙ ap (λ (t : Trip). auditedRun t (args .sheet .now)) (unstruck-trip (ready .0) (ready .1))
+    ∙ ap (λ (t : Trip). auditedRun t (args .sheet .now)) (unstruck-trip noneBanned (ready .0) (ready .1))
     ∙ sym (none-fits (runTests (args .map .now) (args .order .now)) _ _ (ready .2))
 
 pub audit-spec : {M : Type 1} → statement M
@@ -37,6 +39,7 @@ audit-spec =
     tie.close
     (tie.spec
     (λ c κs. search needs)
+    (λ c. search needs)
     (λ c. search needs)
     (λ c. search needs)
     audit-run-requires

@@ -6,6 +6,7 @@ use Prim.Native.Nat.{ℕ}
 use native.Mathlib.Omega.{arith}
 use Rattle.sheets.specs.declared.Heading.{Heading}
 use Rattle.sheets.specs.Sheet.{withHeading}
+use Rattle.moves.specs.Bans.{listedIn}
 use Rattle.moves.specs.Runs.{tripIn}
 use Rattle.retiming.specs.declared.Walked.{Walked}
 use Rattle.retiming.specs.Retiming.{timing}
@@ -17,12 +18,12 @@ use Rattle.retiming.proofs.retime_run.Tie as tie
 
 -- the walk was whole and ended at target
 ended : (c : tie.After-known-told2) →
-    let args = c .before .before .before .before .before .before .before .args in
-    SheetSays false (tripIn (args .map .now) (args .run)) (args .sheet .now) (Walked.Reached (c .before .judged2 .given .0 .0))
+    let args = c .before .before .before .before .before .before .before .before .args in
+    SheetSays false (tripIn (args .map .now) (listedIn (args .bans .now)) (args .run)) (args .sheet .now) (Walked.Reached (c .before .judged2 .given .0 .0))
 ended c =
     let judged = c .before .before .before in
-    let args = judged .before .before .before .before .args in
-    subst (SheetSays false (tripIn (args .map .now) (args .run)) (args .sheet .now)) (c .before .judged2 .given .1) (judged .judge-sheet .ensures)
+    let args = judged .before .before .before .before .before .args in
+    subst (SheetSays false (tripIn (args .map .now) (listedIn (args .bans .now)) (args .run)) (args .sheet .now)) (c .before .judged2 .given .1) (judged .judge-sheet .ensures)
 
 read-heading-requires : tie.Need-read-heading-requires
 read-heading-requires c κs = omega (arith, ended c .0)
@@ -37,16 +38,16 @@ write-rows-requires : tie.Need-write-rows-requires
 write-rows-requires c κs =
     let read = c .before .before .before in
     let reached = read .before in
-    let start = reached .before .before .before .before .before .before .before in
+    let start = reached .before .before .before .before .before .before .before .before in
     let judged = ended reached in
-    (start .pre, (judged .0, (says-ends (timing false (tripIn (start .args .map .now) (start .args .run)) (start .args .sheet .now)) (reached .before .judged2 .given .0 .0) (judged .2), rw (← ap (λ (h : Heading). h .moves) (read .read-heading .ensures), ← c .before .before .sheet-needed .ensures) (c .before .if1 .left))))
+    (start .pre, (judged .0, (says-ends (timing false (tripIn (start .args .map .now) (listedIn (start .args .bans .now)) (start .args .run)) (start .args .sheet .now)) (reached .before .judged2 .given .0 .0) (judged .2), rw (← ap (λ (h : Heading). h .moves) (read .read-heading .ensures), ← c .before .before .sheet-needed .ensures) (c .before .if1 .left))))
 
 returns-2 : tie.Need-returns-2
 returns-2 c =
     let judged = c .before .before .before in
-    let args = judged .before .before .before .before .args in
+    let args = judged .before .before .before .before .before .args in
     retimed-refused _ _ _ (c .before .judged .given .0 .0)
-    (subst (SheetSays false (tripIn (args .map .now) (args .run)) (args .sheet .now)) (c .before .judged .given .1) (judged .judge-sheet .ensures))
+    (subst (SheetSays false (tripIn (args .map .now) (listedIn (args .bans .now)) (args .run)) (args .sheet .now)) (c .before .judged .given .1) (judged .judge-sheet .ensures))
 
 returns-3 : tie.Need-returns-3
 returns-3 c =

@@ -7,6 +7,7 @@ use native.Mathlib.Omega.{arith}
 use borrow.Author.Needs.{needs}
 use lib.ListN.{length}
 use Rattle.states.specs.States.{startOf}
+use Rattle.moves.specs.Bans.{listedIn}
 use Rattle.moves.specs.Runs.{tripIn}
 use Rattle.moves.proofs.Trips.{run-tied}
 use Rattle.moves.proofs.Rising.{run-sound}
@@ -20,36 +21,36 @@ use Rattle.retiming.proofs.write_rows.Statement.{statement}
 use Rattle.retiming.proofs.write_rows.Tie as tie
 
 abbrev Inv-loop : tie.InvT-loop
-Inv-loop map run sheet out₀ moves state₀ k₀ out state k =
-    Rewriting (tripIn map run) sheet moves (lastReached (startOf (run .order)) (timing false (tripIn map run) sheet)) (rowsReached (timing false (tripIn map run) sheet)) out₀ k state out
+Inv-loop map bans run sheet out₀ moves state₀ k₀ out state k =
+    Rewriting (tripIn map (listedIn bans) run) sheet moves (lastReached (startOf (run .order)) (timing false (tripIn map (listedIn bans) run) sheet)) (rowsReached (timing false (tripIn map (listedIn bans) run) sheet)) out₀ k state out
 
 abbrev μ-loop : tie.MeasureT-loop
-μ-loop map run sheet out₀ moves state₀ k₀ out state k = moves + 1 - k
+μ-loop map bans run sheet out₀ moves state₀ k₀ out state k = moves + 1 - k
 
 word-requires : tie.Need-word-requires Inv-loop μ-loop
-word-requires c κs = omega (arith, c .before .before .before .before .pre .1 .0)
+word-requires c κs = omega (arith, c .before .before .before .before .before .pre .1 .0)
 
 loop-holds : tie.Need-loop-holds Inv-loop μ-loop
 loop-holds c =
-    let start = c .before .before .before .before .before .before in
+    let start = c .before .before .before .before .before .before .before in
     let args = start .args in
-    rewriting-start (run-sound _ _ (start .pre .0)) (c .before .word .ensures)
-    (ends-is (startOf (args .run .order)) (timing false (tripIn (args .map .now) (args .run)) (args .sheet .now)) (start .pre .1 .1 .0))
-    (c .start-of .ensures ∙ ap startOf (sym (run-tied (args .map .now) (args .run) .order)))
+    rewriting-start (run-sound _ _ _ (start .pre .0)) (c .before .word .ensures)
+    (ends-is (startOf (args .run .order)) (timing false (tripIn (args .map .now) (listedIn (args .bans .now)) (args .run)) (args .sheet .now)) (start .pre .1 .1 .0))
+    (c .start-of .ensures ∙ ap startOf (sym (run-tied (args .map .now) (listedIn (args .bans .now)) (args .run) .order)))
 
 read-row-requires : tie.Need-read-row-requires Inv-loop μ-loop
 read-row-requires c κs =
-    let start = c .before .before .before .before .before .before .before .before in
+    let start = c .before .before .before .before .before .before .before .before .before in
     (c .before .loop .inv .low, omega (arith, start .pre .1 .0, c .before .before .before .word .ensures, c .loop-test .taken))
 
 walk-row-requires : tie.Need-walk-row-requires Inv-loop μ-loop
-walk-row-requires c κs = (c .before .before .before .before .before .before .before .before .before .pre .0, c .before .before .loop .inv .range)
+walk-row-requires c κs = (c .before .before .before .before .before .before .before .before .before .before .pre .0, c .before .before .loop .inv .range)
 
 -- what was walked is the sheet's record k
 judged : (c : tie.After-walk-row Inv-loop μ-loop) {r : Walked} → c .walk-row .result ≡ r →
     let at-loop = c .before .before .before in
-    let args = at-loop .before .before .before .before .before .before .before .args in
-    WalkSays (walk false (tripIn (args .map .now) (args .run)) (at-loop .loop .k) (at-loop .loop .state) (rowAt (args .sheet .now) (at-loop .loop .k) ∷ [])) r
+    let args = at-loop .before .before .before .before .before .before .before .before .args in
+    WalkSays (walk false (tripIn (args .map .now) (listedIn (args .bans .now)) (args .run)) (at-loop .loop .k) (at-loop .loop .state) (rowAt (args .sheet .now) (at-loop .loop .k) ∷ [])) r
 judged c is = rw (← is, ← c .before .read-row .ensures) (c .walk-row .ensures)
 
 -- the first pass met no refusal, so this one meets none
@@ -67,17 +68,17 @@ returns c = absurd (unmet c)
 
 -- the other sheet is as long as it came
 long : (c : tie.At-loop Inv-loop μ-loop) →
-    let start = c .before .before .before .before .before .before .before in
+    let start = c .before .before .before .before .before .before .before .before in
     length (c .loop .out) ≡ length (start .args .out .now)
 long c =
-    let start = c .before .before .before .before .before .before .before in
+    let start = c .before .before .before .before .before .before .before .before in
     rewriting-length (c .loop .inv) (rw (c .before .before .word .ensures) (start .pre .1 .1 .1))
 
 write-row-requires : tie.Need-write-row-requires Inv-loop μ-loop
 write-row-requires c κs =
     let in-loop = c .before .before .before .before .before .before .before in
     let at-loop = in-loop .before in
-    let start = at-loop .before .before .before .before .before .before .before in
+    let start = at-loop .before .before .before .before .before .before .before .before in
     (at-loop .loop .inv .low, omega (arith, long at-loop, start .pre .1 .1 .1, at-loop .before .before .word .ensures, in-loop .loop-test .taken))
 
 loop-again : tie.Need-loop-again Inv-loop μ-loop
@@ -85,9 +86,9 @@ loop-again c =
     let reached = c .before .before .before .before .before in
     let walked = reached .before .before .before in
     let at-loop = walked .before .before .before in
-    let start = at-loop .before .before .before .before .before .before .before in
+    let start = at-loop .before .before .before .before .before .before .before .before in
     rw (c .before .before .write-row .ensures, walked .before .read-row .ensures)
-    (rewriting-next (at-loop .loop .inv) (run-sound _ _ (start .pre .0)) (walked .before .before .loop-test .taken) (rw (at-loop .before .before .word .ensures) (start .pre .1 .1 .1)) (reached .before .walked2 .given .0 .0) (judged walked (reached .before .walked2 .given .1)))
+    (rewriting-next (at-loop .loop .inv) (run-sound _ _ _ (start .pre .0)) (walked .before .before .loop-test .taken) (rw (at-loop .before .before .word .ensures) (start .pre .1 .1 .1)) (reached .before .walked2 .given .0 .0) (judged walked (reached .before .walked2 .given .1)))
 
 same-length-2 : tie.Need-same-length-2 Inv-loop μ-loop
 same-length-2 c = long (c .before)

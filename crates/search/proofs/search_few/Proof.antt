@@ -7,7 +7,7 @@ use Rattle.search.proofs.search_few.Tie as tie
 
 search-in-requires : tie.Need-search-in-requires
 search-in-requires c κs =
-    let s = c .before .before .before .before .before .before .before in
+    let s = c .before .before .before .before .before .before .before .before in
     let a = s .args in
     (s .pre .0, ((s .pre .1 .0 .0, s .pre .1 .0 .1, s .pre .1 .0 .2, hints-cleared), cleared (a .words .now) fewEntries _ (omega (arith, s .pre .1 .1))))
 

@@ -3,6 +3,7 @@ use native.Mathlib.Omega.{arith}
 use native.Mathlib.Nat.{le-refl}
 use lib.ListN.{length}
 use borrow.Author.Needs.{needs}
+use Rattle.moves.specs.Bans.{closedIn}
 use Rattle.moves.specs.Runs.{tripIn}
 use Rattle.moves.proofs.Rising.{run-sound}
 use Rattle.winners.proofs.Keys.{fitting-packs}
@@ -15,44 +16,44 @@ use Rattle.search.proofs.settle_label.Tie as tie
 -- the candidate's junction has an entry
 within : tie.Need-slice-reshared-read-next-candidate
 within c =
-    let s = c .before .before .before .before .before .before .before .before .before .before .before .before in
+    let s = c .before .before .before .before .before .before .before .before .before .before .before .before .before in
     let a = s .args in
     let U = s .pre .1 .0 in
-    omega (arith, chosen-range _ U (a .w) (a .candidate) (s .pre .1 .1 .0) (run-sound (a .map .now) (a .run) (s .pre .0)) .high, U .wide)
+    omega (arith, chosen-range _ U (a .w) (a .candidate) (s .pre .1 .1 .0) (run-sound (a .map .now) (closedIn (a .closed .now)) (a .run) (s .pre .0)) .high, U .wide)
 
 next-candidate-requires : tie.Need-next-candidate-requires
 next-candidate-requires c κs =
-    let s = c .before .before .before .before .before .before .before .before .before .before .before .before in
+    let s = c .before .before .before .before .before .before .before .before .before .before .before .before .before in
     let a = s .args in
     let U = s .pre .1 .0 in
     let won = s .pre .1 .1 .0 in
-    let range = chosen-range _ U (a .w) (a .candidate) won (run-sound (a .map .now) (a .run) (s .pre .0)) in
+    let range = chosen-range _ U (a .w) (a .candidate) won (run-sound (a .map .now) (closedIn (a .closed .now)) (a .run) (s .pre .0)) in
     (s .pre .0, (range, ((U .lists, U .wide), (le-refl (a .n), ranged-before U (a .n) (le-refl (a .n)), told-head U (a .candidate .junction) (within c), s .pre .1 .1 .1 .1 .2))))
 
 cast-add-label : tie.Need-cast-add-label
 cast-add-label c =
-    let s = c .before .before .before .before .before .before .before .before .before .before .before .before .before .before .before .before .before .before .before in
+    let s = c .before .before .before .before .before .before .before .before .before .before .before .before .before .before .before .before .before .before .before .before in
     omega (arith, s .pre .1 .1 .0 .high, s .pre .1 .1 .1 .1 .0)
 
 add-label-requires : tie.Need-add-label-requires
 add-label-requires c κs =
-    let s = c .before .before .before .before .before .before .before .before .before .before .before .before .before .before .before .before .before .before .before in
+    let s = c .before .before .before .before .before .before .before .before .before .before .before .before .before .before .before .before .before .before .before .before in
     let a = s .args in
     let U = s .pre .1 .0 in
     let won = s .pre .1 .1 .0 in
-    let sound = run-sound (a .map .now) (a .run) (s .pre .0) in
+    let sound = run-sound (a .map .now) (closedIn (a .closed .now)) (a .run) (s .pre .0) in
     let range = chosen-range _ U (a .w) (a .candidate) won sound in
     let here : a .candidate .junction < length (a .heads .now) = omega (arith, range .high, U .wide) in
     ((U .lists, here), ((s .pre .1 .1 .1 .1 .0, s .pre .1 .1 .1 .1 .1), (omega (arith, range .high, sound .few), fitting-packs _ sound _ _ range (c .before .before .before .before .before .before .next-candidate .ensures .fitting))))
 
 enter-requires : tie.Need-enter-requires
 enter-requires c κs =
-    let s = c .before .before .before .before .before .before .before .before .before .before .before .before .before .before .before .before .before .before .before .before .before .before .before .before .before .before .before .before .before in
+    let s = c .before .before .before .before .before .before .before .before .before .before .before .before .before .before .before .before .before .before .before .before .before .before .before .before .before .before .before .before .before .before in
     let a = s .args in
     let U = s .pre .1 .0 in
     let won = s .pre .1 .1 .0 in
-    let trip = tripIn (a .map .now) (a .run) in
-    let sound = run-sound (a .map .now) (a .run) (s .pre .0) in
+    let trip = tripIn (a .map .now) (closedIn (a .closed .now)) (a .run) in
+    let sound = run-sound (a .map .now) (closedIn (a .closed .now)) (a .run) (s .pre .0) in
     let added = c .before .before .before .before .before .before .before .before .before .add-label .ensures in
     let room = s .pre .1 .1 .1 .1 in (
       s .pre .0,
@@ -64,16 +65,16 @@ enter-requires c κs =
 
 add-pass-over : tie.Need-add-pass-over
 add-pass-over c =
-    let s = c .before .before .before .before .before .before .before .before .before .before .before .before .before .before .before .before .before .before .before .before .before .before .before .before .before .before .before .before .before .before .before .before .before .before .before .before .before in
+    let s = c .before .before .before .before .before .before .before .before .before .before .before .before .before .before .before .before .before .before .before .before .before .before .before .before .before .before .before .before .before .before .before .before .before .before .before .before .before .before in
     omega (arith, s .pre .1 .1 .1 .1 .0)
 
 pass-over-requires : tie.Need-pass-over-requires
 pass-over-requires c κs =
-    let s = c .before .before .before .before .before .before .before .before .before .before .before .before .before .before .before .before .before .before .before .before .before .before .before .before .before .before .before .before .before .before .before .before .before .before .before .before .before in
+    let s = c .before .before .before .before .before .before .before .before .before .before .before .before .before .before .before .before .before .before .before .before .before .before .before .before .before .before .before .before .before .before .before .before .before .before .before .before .before .before in
     let a = s .args in
     let U = s .pre .1 .0 in
     let won = s .pre .1 .1 .0 in
-    let sound = run-sound (a .map .now) (a .run) (s .pre .0) in
+    let sound = run-sound (a .map .now) (closedIn (a .closed .now)) (a .run) (s .pre .0) in
     let added = c .before .before .before .before .before .before .before .before .before .before .before .before .before .before .before .before .before .add-label .ensures in
     let next = c .before .before .before .before .before .before .before .before .before .before .before .before .before .before .before .before .before .before .before .before .before .before .before .before .next-candidate .ensures in
     let mended = c .before .before .before .before .before .before .before .enter .ensures in
@@ -90,11 +91,11 @@ pass-over-requires c κs =
 
 returns : tie.Need-returns
 returns c =
-    let s = c .before .before .before .before .before .before .before .before .before .before .before .before .before .before .before .before .before .before .before .before .before .before .before .before .before .before .before .before .before .before .before .before .before .before .before .before .before .before .before .before .before .before in
+    let s = c .before .before .before .before .before .before .before .before .before .before .before .before .before .before .before .before .before .before .before .before .before .before .before .before .before .before .before .before .before .before .before .before .before .before .before .before .before .before .before .before .before .before .before in
     let a = s .args in
     let U = s .pre .1 .0 in
     let won = s .pre .1 .1 .0 in
-    let sound = run-sound (a .map .now) (a .run) (s .pre .0) in
+    let sound = run-sound (a .map .now) (closedIn (a .closed .now)) (a .run) (s .pre .0) in
     let added = c .before .before .before .before .before .before .before .before .before .before .before .before .before .before .before .before .before .before .before .before .before .before .add-label .ensures in
     let new = s .pre .1 .1 .1 .0 in
     onward-as (key-same _ U (a .w) (a .candidate) won sound (new .0) (new .1) _ _ _ _ _ _ (c .before .before .before .before .before .before .before .before .before .before .before .before .before .before .before .before .before .before .before .before .before .before .before .before .before .before .before .before .before .next-candidate .ensures) added (c .before .before .before .before .before .before .before .before .before .before .before .before .enter .ensures)) (c .before .before .before .before .pass-over .ensures)
@@ -106,7 +107,7 @@ settle-label-spec =
     (λ c. search needs)
     (λ c. search needs)
     within
-    (λ c. omega (arith, c .before .before .before .before .before .before .before .before .before .slice-known2 .given (c .before .before .before .before .before .before .before .before .before .before .before .before .args .candidate .junction)))
+    (λ c. omega (arith, c .before .before .before .before .before .before .before .before .before .slice-known2 .given (c .before .before .before .before .before .before .before .before .before .before .before .before .before .args .candidate .junction)))
     next-candidate-requires
     cast-add-label
     add-label-requires

@@ -3,6 +3,7 @@ use mathlib.Core.Path.{_∙_, refl, subst}
 use native.Mathlib.Omega.{arith}
 use native.Mathlib.Nat.{le-refl}
 use borrow.Author.Tests.{not-true, not-false}
+use Rattle.moves.specs.Bans.{closedIn}
 use Rattle.moves.specs.Runs.{tripIn}
 use Rattle.winners.specs.Mending.{Placed}
 use Rattle.winners.proofs.Contenders.{named}
@@ -11,27 +12,27 @@ use Rattle.winners.proofs.enter.Statement.{statement}
 use Rattle.winners.proofs.enter.Tie as tie
 
 abbrev Inv-loop : tie.InvT-loop
-Inv-loop map run words₀ n new j₀ words j = Entered (tripIn map run) words₀ words n j new
+Inv-loop map closed run words₀ n new j₀ words j = Entered (tripIn map (closedIn closed) run) words₀ words n j new
 
 abbrev μ-loop : tie.MeasureT-loop
-μ-loop map run words₀ n new j₀ words j = j
+μ-loop map closed run words₀ n new j₀ words j = j
 
 add-contender-of : tie.Need-add-contender-of Inv-loop μ-loop
-add-contender-of c = let s = c .before .before .before in omega (arith, s .pre .1 .0 _ (omega arith) (le-refl _) .small)
+add-contender-of c = let s = c .before .before .before .before in omega (arith, s .pre .1 .0 _ (omega arith) (le-refl _) .small)
 
 contender-of-requires : tie.Need-contender-of-requires Inv-loop μ-loop
-contender-of-requires c κs = let s = c .before .before .before in λ p. s .pre .1 .0 _ p (le-refl _) .room
+contender-of-requires c κs = let s = c .before .before .before .before in λ p. s .pre .1 .0 _ p (le-refl _) .room
 
 add-j : tie.Need-add-j Inv-loop μ-loop
-add-j c = let s = c .before .before .before .before in omega (arith, s .pre .1 .0 _ (omega arith) (le-refl _) .small)
+add-j c = let s = c .before .before .before .before .before in omega (arith, s .pre .1 .0 _ (omega arith) (le-refl _) .small)
 
 loop-holds : tie.Need-loop-holds Inv-loop μ-loop
 loop-holds c =
-    let s = c .before .before .before .before in
+    let s = c .before .before .before .before .before in
     record { enters = record { ready = s .pre .1 .0; entering = s .pre .1 .1; named = named (λ p. s .pre .1 .0 _ p (le-refl _)) (s .pre .1 .0 _ (omega arith) (le-refl _) .small) (c .contender-of .ensures) }; only = only-refl (s .args .words .now); long = refl }
 
 place-requires : tie.Need-place-requires Inv-loop μ-loop
-place-requires c κs = (c .before .before .before .before .before .before .before .pre .0, (c .before .before .loop .inv .enters, c .before .loop-test .taken))
+place-requires c κs = (c .before .before .before .before .before .before .before .before .pre .0, (c .before .before .loop .inv .enters, c .before .loop-test .taken))
 
 same-length : tie.Need-same-length Inv-loop μ-loop
 same-length c = c .before .before .before .place .ensures .long ∙ c .before .before .before .before .before .before .loop .inv .long

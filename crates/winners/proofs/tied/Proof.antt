@@ -1,5 +1,6 @@
 use native.Mathlib.Omega.{arith}
 use native.Mathlib.Nat.{le-refl}
+use Rattle.moves.specs.Bans.{closedIn}
 use Rattle.moves.specs.Runs.{tripIn}
 use Rattle.moves.proofs.Rising.{run-sound}
 use Rattle.winners.proofs.Contenders.{both-live, both-none, best-first, best-second}
@@ -8,15 +9,15 @@ use Rattle.winners.proofs.tied.Tie as tie
 
 returns : tie.Need-returns
 returns c =
-    let s = c .before .before .before .before in
-    let trip = tripIn (s .args .map .now) (s .args .run) in
-    best-first (rw (both-none trip (run-sound (s .args .map .now) (s .args .run) (s .pre .0)) (s .args .words .now) (s .pre .1 .0) (s .pre .1 .1) (s .pre .1 .2) (c .if1 .taken)) (le-refl _))
+    let s = c .before .before .before .before .before in
+    let trip = tripIn (s .args .map .now) (closedIn (s .args .closed .now)) (s .args .run) in
+    best-first (rw (both-none trip (run-sound (s .args .map .now) (closedIn (s .args .closed .now)) (s .args .run) (s .pre .0)) (s .args .words .now) (s .pre .1 .0) (s .pre .1 .1) (s .pre .1 .2) (c .if1 .taken)) (le-refl _))
 
 precedes-requires : tie.Need-precedes-requires
 precedes-requires c κs =
-    let s = c .before .before .before .before .before in
-    let trip = tripIn (s .args .map .now) (s .args .run) in
-    ((s .pre .0, cc), both-live trip (run-sound (s .args .map .now) (s .args .run) (s .pre .0)) (s .args .words .now) (s .pre .1 .0) (s .pre .1 .1) (s .pre .1 .2) (c .before .if1 .left) (omega arith))
+    let s = c .before .before .before .before .before .before in
+    let trip = tripIn (s .args .map .now) (closedIn (s .args .closed .now)) (s .args .run) in
+    ((s .pre .0, cc), both-live trip (run-sound (s .args .map .now) (closedIn (s .args .closed .now)) (s .args .run) (s .pre .0)) (s .args .words .now) (s .pre .1 .0) (s .pre .1 .1) (s .pre .1 .2) (c .before .if1 .left) (omega arith))
 
 returns-2 : tie.Need-returns-2
 returns-2 c = best-first (c .before .precedes .ensures .yes (c .if2 .taken))
