@@ -70,4 +70,4 @@ module _ (trace : List ℕ) (rules : Rules) (f : Figures) where
         let sound = at-end .1 .sound in
         subst (λ (g : Figures). SoundFigures g rules)
         (ap (settled rules) (at-end .1 .there) ∙ ran-up-to-date rules (sound .sound-rules) f (recordsOf trace))
-        (paused-sound (at-end .0 .figures) rules (at-end .0 .pause) (sound .sound-figures))
+        (paused-sound (at-end .0 .figures) rules (at-end .0 .pause .0) (sound .sound-figures))

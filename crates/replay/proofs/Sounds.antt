@@ -68,10 +68,10 @@ pub step-sound : (rules : Rules) (u : Underway) (r : TraceRecord) → Sound rule
 step-sound rules u r sound within = by (isPause r) (isDriving r) refl refl
   where
     still : SoundFigures (settled rules u) rules
-    still = paused-sound (u .figures) rules (u .pause) (sound .sound-figures)
+    still = paused-sound (u .figures) rules (u .pause .0) (sound .sound-figures)
 
     by : (pauses drives : Bool) → isPause r ≡ pauses → isDriving r ≡ drives → Sound rules (stepOn rules u r)
-    by true drives is-pause is-drive = rw is-pause (record { sound-rules = sound .sound-rules; sound-figures = sound .sound-figures; pause-high = lengthened-high (u .pause) (r .seconds) })
+    by true drives is-pause is-drive = rw is-pause (record { sound-rules = sound .sound-rules; sound-figures = sound .sound-figures; pause-high = lengthened-high (u .pause .0) (r .seconds) })
     by false true is-pause is-drive =
         rw (is-pause, is-drive)
         (record {

@@ -31,10 +31,10 @@ ran-more rules u (s ∷ rs) r = ran-more rules (stepOn rules u s) rs r
 
 -- where a replay begins
 abbrev pub begun : Figures → Underway
-begun f = record { figures = f; pause = 0 }
+begun f = record { figures = f; pause = record { 0 = 0 } }
 
 -- the three kinds of record
-pub on-pause : (rules : Rules) (u : Underway) (r : TraceRecord) → isPause r ≡ true → stepOn rules u r ≡ record { figures = u .figures; pause = lengthened (u .pause) (r .seconds) }
+pub on-pause : (rules : Rules) (u : Underway) (r : TraceRecord) → isPause r ≡ true → stepOn rules u r ≡ record { figures = u .figures; pause = record { 0 = lengthened (u .pause .0) (r .seconds) } }
 on-pause rules u r is = rw is
 
 pub on-driving : (rules : Rules) (u : Underway) (r : TraceRecord) → isPause r ≡ false → isDriving r ≡ true → stepOn rules u r ≡ begun (drivenOn (r .seconds) (settled rules u))
@@ -59,22 +59,22 @@ module _ (rules : Rules) (sound : SoundRules rules) where
       (λ (long : ltb (p + s) mostSeconds ≡ false). rw long (long-pause-before rules sound mostSeconds (p + s) rs f (omega arith) (ltb-false (p + s) mostSeconds long)))
       (cases (ltb (p + s) mostSeconds))
 
-  ran-settles : (u : Underway) (rs : List TraceRecord) → settled rules (ran rules u rs) ≡ afterEach rules (pausedBefore (u .pause) (joined rs)) (u .figures)
+  ran-settles : (u : Underway) (rs : List TraceRecord) → settled rules (ran rules u rs) ≡ afterEach rules (pausedBefore (u .pause .0) (joined rs)) (u .figures)
   unfolding afterEach pausedBefore joined
   ran-settles u [] = refl
   ran-settles u (r ∷ rs) =
       ⊎-elim
       (λ (is : isPause r ≡ true).
       ap (λ (v : Underway). settled rules (ran rules v rs)) (on-pause rules u r is)
-      ∙ ran-settles (record { figures = u .figures; pause = lengthened (u .pause) (r .seconds) }) rs
-      ∙ lengthened-before (u .pause) (r .seconds) (joined rs) (u .figures)
-      ∙ ap (λ (l : List TraceRecord). afterEach rules l (u .figures)) (sym (paused-twice (u .pause) (r .seconds) (joined rs)) ∙ ap (pausedBefore (u .pause)) (sym (joined-pause r rs is))))
+      ∙ ran-settles (record { figures = u .figures; pause = record { 0 = lengthened (u .pause .0) (r .seconds) } }) rs
+      ∙ lengthened-before (u .pause .0) (r .seconds) (joined rs) (u .figures)
+      ∙ ap (λ (l : List TraceRecord). afterEach rules l (u .figures)) (sym (paused-twice (u .pause .0) (r .seconds) (joined rs)) ∙ ap (pausedBefore (u .pause .0)) (sym (joined-pause r rs is))))
       (λ (is : isPause r ≡ false).
       let next = afterActivity rules r (settled rules u) in
       ap (λ (v : Underway). settled rules (ran rules v rs)) (on-other rules u r is)
       ∙ ran-settles (begun next) rs
       ∙ no-pause-before rules sound (joined rs) next
-      ∙ ap (λ (l : List TraceRecord). afterEach rules l (u .figures)) (sym (before-other (u .pause) r (joined rs) is) ∙ ap (pausedBefore (u .pause)) (sym (joined-other r rs is))))
+      ∙ ap (λ (l : List TraceRecord). afterEach rules l (u .figures)) (sym (before-other (u .pause .0) r (joined rs) is) ∙ ap (pausedBefore (u .pause .0)) (sym (joined-other r rs is))))
       (cases (isPause r))
 
   pub ran-up-to-date : (f : Figures) (rs : List TraceRecord) → settled rules (ran rules (begun f) rs) ≡ upToDate rules rs f

@@ -34,19 +34,19 @@ lengthened pause seconds = pick (ltb (pause + seconds) mostSeconds) (pause + sec
 
 -- the figures, with the pause that is under way as it is
 abbrev pub settled : Rules → Underway → Figures
-settled rules u = afterPause rules (u .pause) (u .figures)
+settled rules u = afterPause rules (u .pause .0) (u .figures)
 
 pub record Sound (rules : Rules) (u : Underway) : Type 0 where
   pub sound-rules : SoundRules rules
   pub sound-figures : SoundFigures (u .figures) rules
-  pub pause-high : u .pause ≤ mostSeconds
+  pub pause-high : u .pause .0 ≤ mostSeconds
 
 -- one record more
 abbrev pub stepOn : Rules → Underway → TraceRecord → Underway
 stepOn rules u r =
-    pick (isPause r) (record { figures = u .figures; pause = lengthened (u .pause) (r .seconds) })
-    (pick (isDriving r) (record { figures = drivenOn (r .seconds) (settled rules u); pause = 0 })
-    (record { figures = settled rules u; pause = 0 }))
+    pick (isPause r) (record { figures = u .figures; pause = record { 0 = lengthened (u .pause .0) (r .seconds) } })
+    (pick (isDriving r) (record { figures = drivenOn (r .seconds) (settled rules u); pause = record { 0 = 0 } })
+    (record { figures = settled rules u; pause = record { 0 = 0 } }))
 
 -- driving that takes a figure over its limit
 abbrev pub goesPast : Rules → Underway → TraceRecord → Bool

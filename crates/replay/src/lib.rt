@@ -16,8 +16,9 @@ use driving::Rules;
 use replies::Check;
 use replies::Refusal;
 use replies::Replaying;
+use seconds::Clock;
 
-// A pair of words of the trace.
+// A pair of words of the trace: the activity says whether the seconds are wheel or clock time.
 pub struct TraceRecord {
     pub activity: u32,
     pub seconds: u32,
@@ -39,7 +40,7 @@ impl TraceRecord {
 // The figures before the pause that is under way, and how long that pause is so far: 0 where none is.
 struct Underway {
     figures: Figures,
-    pause: u32,
+    pause: Clock,
 }
 
 // A record that is refused, or where the replay is after it.
@@ -80,47 +81,47 @@ fn is_odd(taken: TraceRecord) -> bool
 }
 
 // The figures after a whole pause that is shorter than the break: it may be a part of one.
-fn after_short_pause(figures: Figures, rules: Rules, seconds: u32) -> Figures
-    ensures { λ r. ⌜ r ≡ afterShortPause rules seconds figures ⌝ }
+fn after_short_pause(figures: Figures, rules: Rules, pause: Clock) -> Figures
+    ensures { λ r. ⌜ r ≡ afterShortPause rules (pause .0) figures ⌝ }
 {
     if !driving::has_split(rules) {
         return figures;
     }
-    if figures.marked && rules.second_part.0 <= seconds {
+    if figures.marked && rules.second_part.0 <= pause.0 {
         return driving::cleared(figures, Rules::SECOND_PART);
     }
-    if rules.first_part.0 <= seconds {
+    if rules.first_part.0 <= pause.0 {
         return driving::cleared(figures, Rules::FIRST_PART);
     }
     figures
 }
 
 // The figures after a whole pause.
-fn after_pause(figures: Figures, rules: Rules, seconds: u32) -> Figures
-    ensures { λ r. ⌜ r ≡ afterPause rules seconds figures ⌝ }
+fn after_pause(figures: Figures, rules: Rules, pause: Clock) -> Figures
+    ensures { λ r. ⌜ r ≡ afterPause rules (pause .0) figures ⌝ }
 {
-    if rules.weekly_rest.0 <= seconds {
+    if rules.weekly_rest.0 <= pause.0 {
         return driving::cleared(figures, Rules::WEEKLY_REST);
     }
-    if rules.rest_time.0 <= seconds {
+    if rules.rest_time.0 <= pause.0 {
         return driving::cleared(figures, Rules::REST);
     }
-    if rules.break_time.0 <= seconds {
+    if rules.break_time.0 <= pause.0 {
         return driving::cleared(figures, Rules::BREAK);
     }
-    after_short_pause(figures, rules, seconds)
+    after_short_pause(figures, rules, pause)
 }
 
 // A pause that goes on. Nothing asks for a longer one than the longest weekly rest, so the sum stops there and never wraps.
-fn lengthened(pause: u32, seconds: u32) -> u32
-    requires { ⌜ (pause ≤ 1000000) × (seconds ≤ 1000000) ⌝ }
-    ensures { λ r. ⌜ r ≡ lengthened pause seconds ⌝ }
+fn lengthened(pause: Clock, more: Clock) -> Clock
+    requires { ⌜ (pause .0 ≤ 1000000) × (more .0 ≤ 1000000) ⌝ }
+    ensures { λ r. ⌜ r .0 ≡ lengthened (pause .0) (more .0) ⌝ }
 {
-    let sum = pause + seconds;
+    let sum = pause.0 + more.0;
     if sum < TraceRecord::MOST_SECONDS {
-        return sum;
+        return Clock(sum);
     }
-    TraceRecord::MOST_SECONDS
+    Clock(TraceRecord::MOST_SECONDS)
 }
 
 // One record more, which is not odd.
@@ -130,18 +131,22 @@ fn step_on(before: Underway, rules: Rules, taken: TraceRecord) -> Underway
 {
     let figures = before.figures;
     if taken.activity == TraceRecord::PAUSE {
-        let pause = lengthened(before.pause, taken.seconds);
+        let more = Clock(taken.seconds);
+        let pause = lengthened(before.pause, more);
         return Underway { figures, pause };
     }
     let settled = after_pause(figures, rules, before.pause);
     if taken.activity != TraceRecord::DRIVING {
         return Underway {
             figures: settled,
-            pause: 0,
+            pause: Clock(0),
         };
     }
     let figures = driving::driven(settled, taken.seconds);
-    Underway { figures, pause: 0 }
+    Underway {
+        figures,
+        pause: Clock(0),
+    }
 }
 
 fn within_limits(figures: Figures, rules: Rules) -> bool
@@ -181,7 +186,10 @@ fn walk_records(trace: &[u8], rules: Rules, figures: Figures) -> Step
     ensures { λ r. ⌜ WalkSays (now (trace .entry)) rules figures r ⌝ }
 {
     let records = trace.len() / TraceRecord::BYTES;
-    let mut underway = Underway { figures, pause: 0 };
+    let mut underway = Underway {
+        figures,
+        pause: Clock(0),
+    };
     let mut done: usize = 0;
     while done < records {
         let taken = read_record(trace, done + 1);

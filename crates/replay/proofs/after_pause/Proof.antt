@@ -8,30 +8,30 @@ use Rattle.replay.proofs.after_pause.Tie as tie
 
 returns : tie.Need-returns
 returns c =
-    let args = c .before .before .before .args in
-    c .cleared .ensures ∙ sym (clears-all (args .rules) (args .seconds) (args .figures) (omega (arith, c .before .if1 .taken)))
+    let args = c .before .before .before .before .args in
+    c .cleared .ensures ∙ sym (clears-all (args .rules) (args .pause .0) (args .figures) (omega (arith, c .before .if1 .taken)))
 
 returns-2 : tie.Need-returns-2
 returns-2 c =
-    let no-weekly = c .before .before .before in
-    let args = no-weekly .before .before .args in
-    c .cleared2 .ensures ∙ sym (clears-both (args .rules) (args .seconds) (args .figures) (omega (arith, no-weekly .if1 .left)) (omega (arith, c .before .if2 .taken)))
+    let no-weekly = c .before .before .before .before in
+    let args = no-weekly .before .before .before .args in
+    c .cleared2 .ensures ∙ sym (clears-both (args .rules) (args .pause .0) (args .figures) (omega (arith, no-weekly .if1 .left)) (omega (arith, c .before .if2 .taken)))
 
 returns-3 : tie.Need-returns-3
 returns-3 c =
-    let no-rest = c .before .before .before in
-    let no-weekly = no-rest .before .before in
-    let args = no-weekly .before .before .args in
+    let no-rest = c .before .before .before .before in
+    let no-weekly = no-rest .before .before .before in
+    let args = no-weekly .before .before .before .args in
     c .cleared3 .ensures
-    ∙ sym (clears-spell (args .rules) (args .seconds) (args .figures) (omega (arith, no-weekly .if1 .left)) (omega (arith, no-rest .if2 .left)) (omega (arith, c .before .if3 .taken)))
+    ∙ sym (clears-spell (args .rules) (args .pause .0) (args .figures) (omega (arith, no-weekly .if1 .left)) (omega (arith, no-rest .if2 .left)) (omega (arith, c .before .if3 .taken)))
 
 returns-4 : tie.Need-returns-4
 returns-4 c =
-    let no-rest = c .before .before .before in
-    let no-weekly = no-rest .before .before in
-    let args = no-weekly .before .before .args in
+    let no-rest = c .before .before .before .before in
+    let no-weekly = no-rest .before .before .before in
+    let args = no-weekly .before .before .before .args in
     c .after-short-pause .ensures
-    ∙ sym (is-short (args .rules) (args .seconds) (args .figures) (omega (arith, no-weekly .if1 .left)) (omega (arith, no-rest .if2 .left)) (omega (arith, c .before .if3 .left)))
+    ∙ sym (is-short (args .rules) (args .pause .0) (args .figures) (omega (arith, no-weekly .if1 .left)) (omega (arith, no-rest .if2 .left)) (omega (arith, c .before .if3 .left)))
 
 pub after-pause-spec : {M : Type 1} → statement M
 after-pause-spec =

@@ -18,7 +18,7 @@ lengthened-requires c κs =
 returns : tie.Need-returns
 returns c =
     let args = c .before .before .before .before .args in
-    ap (λ (p : ℕ). record { figures = args .before .figures; pause = p }) (c .lengthened .ensures)
+    ap (λ (p : ℕ). record { figures = args .before .figures; pause = record { 0 = p } }) (c .lengthened .ensures)
     ∙ sym (on-pause (args .rules) (args .before) (args .taken) (eq-eqb _ _ (c .before .if1 .taken)))
 
 returns-2 : tie.Need-returns-2
@@ -34,7 +34,7 @@ driven-requires c κs =
     let args = start .args in
     let long = seconds-high (args .taken) (start .pre .1) in (
       rw (c .before .before .after-pause .ensures)
-          (drivable _ (args .rules) (start .pre .0 .sound-rules) (paused-sound (args .before .figures) (args .rules) (args .before .pause) (start .pre .0 .sound-figures))),
+          (drivable _ (args .rules) (start .pre .0 .sound-rules) (paused-sound (args .before .figures) (args .rules) (args .before .pause .0) (start .pre .0 .sound-figures))),
       omega (arith, long),
     )
 
