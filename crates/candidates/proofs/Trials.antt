@@ -49,7 +49,7 @@ module _ {trip : Trip} (sound : SoundTrip trip) {s : State} {best : Candidate} (
   abbrev this : State
   this = resultAt trip s cursor
 
-  pub some-best : best .clock ≤ this .clock .0 → 1 ≤ best .cursor
+  pub some-best : best .clock .0 ≤ this .clock .0 → 1 ≤ best .cursor
   some-best late =
       ⊎-elim
       (λ (some : ltb 0 (best .cursor) ≡ true). ltb-true _ _ some)
@@ -57,14 +57,14 @@ module _ {trip : Trip} (sound : SoundTrip trip) {s : State} {best : Candidate} (
       absurd (omega (arith, held .clock, clock-none trip s (best .cursor) (ltb-false _ _ none), legal-clock (trip .order) this (named .lawful), sound .ordered .latest-high)))
       (cases (ltb 0 (best .cursor)))
 
-  pub later-higher : best .clock < this .clock .0 → T (ranksNoHigher before this)
+  pub later-higher : best .clock .0 < this .clock .0 → T (ranksNoHigher before this)
   later-higher late = lower-clock _ _ (omega (arith, held .clock, clock-some trip s (best .cursor) (some-best (omega arith))))
 
-  pub joined-higher : best .clock < this .clock .0 → Joined trip s best cursor (record { cursor = best .cursor; junction = best .junction; clock = best .clock; more = true })
+  pub joined-higher : best .clock .0 < this .clock .0 → Joined trip s best cursor (record { cursor = best .cursor; junction = best .junction; clock = best .clock; more = true })
   joined-higher late = higher (some-best (omega arith)) (later-higher late)
 
-  pub joined-lower : {junction clock : ℕ} {more : Bool} → junction ≡ this .junction → clock ≡ this .clock .0 → clock < best .clock → (1 ≤ best .cursor → more ≡ true)
-      → Joined trip s best cursor (record { cursor = cursor; junction = junction; clock = clock; more = more })
+  pub joined-lower : {junction clock : ℕ} {more : Bool} → junction ≡ this .junction → clock ≡ this .clock .0 → clock < best .clock .0 → (1 ≤ best .cursor → more ≡ true)
+      → Joined trip s best cursor (record { cursor = cursor; junction = junction; clock = record { 0 = clock }; more = more })
   joined-lower there is early told =
       lower _ _ _ there is
       (λ some. (not-T (ranksNoHigher before this) (λ ranks. omega (arith, rank-clock before this ranks, held .clock, clock-some trip s (best .cursor) some)), told some))
@@ -122,7 +122,7 @@ module _ {trip : Trip} {labels : List State} {before : ℕ} {s bound : State} {c
   kept-low low = kept (λ other. absurd (T-not (ranksNoHigher (resultAt trip s cursor) bound) (other .higher) (true-T low)))
 
   -- or, if it is legal, is later than the best, where there may be more in any case
-  pub kept-later : SoundTrip trip → best .more ≡ true → best .clock < resultAt trip s cursor .clock .0 → BestBelow trip labels before s bound (cursor + 1) best
+  pub kept-later : SoundTrip trip → best .more ≡ true → best .clock .0 < resultAt trip s cursor .clock .0 → BestBelow trip labels before s bound (cursor + 1) best
   kept-later sound more late =
       kept
       (λ other.

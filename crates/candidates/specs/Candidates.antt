@@ -39,7 +39,7 @@ noClock = 4294967295
 
 -- no candidate
 abbrev pub noCandidate : Candidate
-noCandidate = record { cursor = 0; junction = 0; clock = noClock; more = false }
+noCandidate = record { cursor = 0; junction = 0; clock = record { 0 = noClock }; more = false }
 
 -- the clock of the state that a cursor's move leads to; none without a cursor
 unfoldable pub candidateClock : Trip → State → ℕ → ℕ
@@ -54,5 +54,5 @@ candidateJunction trip s (suc cursor) = resultAt trip s (suc cursor) .junction
 -- a candidate of a state: its cursor is 0 or names a legal move, and its clock and junction are those of the state after it
 pub record Fitting (trip : Trip) (s : State) (c : Candidate) : Type 0 where
   pub named : Cursor trip s (c .cursor)
-  pub clock : c .clock ≡ candidateClock trip s (c .cursor)
+  pub clock : c .clock .0 ≡ candidateClock trip s (c .cursor)
   pub junction : c .junction ≡ candidateJunction trip s (c .cursor)

@@ -98,4 +98,4 @@ pub data Joined (trip : Trip) (s : State) (best : Candidate) (cursor : ℕ) : Ca
       → Joined trip s best cursor (record { cursor = best .cursor; junction = best .junction; clock = best .clock; more = true })
   lower : (more : Bool) (junction clock : ℕ) → junction ≡ resultAt trip s cursor .junction → clock ≡ resultAt trip s cursor .clock .0
       → (1 ≤ best .cursor → T (not (ranksNoHigher (resultAt trip s (best .cursor)) (resultAt trip s cursor))) × (more ≡ true))
-      → Joined trip s best cursor (record { cursor = cursor; junction = junction; clock = clock; more = more })
+      → Joined trip s best cursor (record { cursor = cursor; junction = junction; clock = record { 0 = clock }; more = more })

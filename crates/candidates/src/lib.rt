@@ -67,18 +67,19 @@ pub fn result_by(
     ensures { λ r. ⌜ r ≡ resultAt (tripIn (now (map .entry)) (closedIn (now (closed .entry))) run) state (c .cursor) ⌝ }
 {
     let figures = state.figures;
+    let clock = c.clock;
     if c.cursor <= sizes.roads {
-        let driven = driving::driven(figures, c.clock - state.clock.0);
+        let driven = driving::driven(figures, clock.0 - state.clock.0);
         return State {
             junction: c.junction,
-            clock: Clock(c.clock),
+            clock,
             figures: driven,
         };
     }
     let cleared = driving::cleared(figures, c.cursor - sizes.roads + 1);
     State {
         junction: c.junction,
-        clock: Clock(c.clock),
+        clock,
         figures: cleared,
     }
 }
@@ -97,25 +98,26 @@ fn lower(
     requires { ⌜ Accepted (now map) run × (sizes ≡ run .sizes) ⌝ }
     requires { ⌜ RangeIn (tripIn (now map) (closedIn (now closed)) run) state ⌝ }
     requires { ⌜ Fitting (tripIn (now map) (closedIn (now closed)) run) state best × (1 ≤ best .cursor) ⌝ }
-    requires { ⌜ (reached ≡ resultAt (tripIn (now map) (closedIn (now closed)) run) state cursor) × (reached .clock .0 ≡ best .clock) ⌝ }
+    requires { ⌜ (reached ≡ resultAt (tripIn (now map) (closedIn (now closed)) run) state cursor) × (reached .clock .0 ≡ best .clock .0) ⌝ }
     ensures { λ r. ⌜ Joined (tripIn (now (map .entry)) (closedIn (now (closed .entry))) run) state best cursor r ⌝ }
 {
     let before = result_by(map, closed, run, sizes, state, best);
     if states::same_state(before, reached) {
         return best;
     }
+    let clock = best.clock;
     if states::ranks_no_higher(before, reached) {
         return Candidate {
             cursor: best.cursor,
             junction: best.junction,
-            clock: best.clock,
+            clock,
             more: true,
         };
     }
     Candidate {
         cursor,
         junction: reached.junction,
-        clock: best.clock,
+        clock,
         more: true,
     }
 }
@@ -137,11 +139,12 @@ fn joined(
     requires { ⌜ reached ≡ resultAt (tripIn (now map) (closedIn (now closed)) run) state cursor ⌝ }
     ensures { λ r. ⌜ Joined (tripIn (now (map .entry)) (closedIn (now (closed .entry))) run) state best cursor r ⌝ }
 {
-    let clock = reached.clock.0;
-    if clock == best.clock {
+    let clock = reached.clock;
+    let best_clock = best.clock;
+    if clock.0 == best_clock.0 {
         return lower(map, closed, run, sizes, state, best, reached, cursor);
     }
-    if clock < best.clock {
+    if clock.0 < best_clock.0 {
         return Candidate {
             cursor,
             junction: reached.junction,
@@ -152,7 +155,7 @@ fn joined(
     Candidate {
         cursor: best.cursor,
         junction: best.junction,
-        clock: best.clock,
+        clock: best_clock,
         more: true,
     }
 }
@@ -189,7 +192,7 @@ fn hinted(
     words: &[u32],
     heads: &[u32],
     hint: u32,
-    clock: u32,
+    clock: Clock,
 ) -> Rival
     requires { ⌜ Accepted (now map) run ⌝ }
     requires { ⌜ (junctionsIn (tripIn (now map) (closedIn (now closed)) run) < length (now heads)) × AllStand (now words) (now heads) ⌝ }
@@ -201,7 +204,7 @@ fn hinted(
         label: 0,
         cursor: road,
     };
-    if hint % HINT_BASE != clock % HINT_BASE {
+    if hint % HINT_BASE != clock.0 % HINT_BASE {
         return none;
     }
     if road == 0 {
@@ -226,7 +229,7 @@ fn rival_of(
     words: &[u32],
     heads: &[u32],
     hint: u32,
-    clock: u32,
+    clock: Clock,
     tied: bool,
     last: usize,
     cursor: u32,
@@ -306,7 +309,7 @@ fn forestalled(
         words,
         heads,
         hint,
-        reached.clock.0,
+        reached.clock,
         tied,
         last,
         cursor,
@@ -359,7 +362,7 @@ fn weigh(
     }
     let reached = result_at(map, closed, run, state, cursor);
     if best.more {
-        if best.clock < reached.clock.0 {
+        if best.clock.0 < reached.clock.0 {
             return best;
         }
     }
@@ -490,10 +493,11 @@ pub fn next_candidate(
             cursor,
         );
         // Field by field, so that no turn of the loop carries the bytes that fill `more` up to a word.
+        let clock = weighed.clock;
         best = Candidate {
             cursor: weighed.cursor,
             junction: weighed.junction,
-            clock: weighed.clock,
+            clock,
             more: weighed.more,
         };
         cursor = following(map, closed, run, state, cursor);

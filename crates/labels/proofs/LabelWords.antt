@@ -61,7 +61,7 @@ flag-told true = refl
 flag-told false = refl
 
 -- two words tell the candidate
-pub word-candidate : (ws : List ℕ) (k : ℕ) (c : Candidate) → Packs c → field ws k cursorField ≡ cursorWord c → field ws k ownField ≡ c .clock → candidateOf ws k ≡ c
+pub word-candidate : (ws : List ℕ) (k : ℕ) (c : Candidate) → Packs c → field ws k cursorField ≡ cursorWord c → field ws k ownField ≡ c .clock .0 → candidateOf ws k ≡ c
 word-candidate ws k c packs word own =
     let m = flag-small (c .more) in
     rw (word, own, half (junctionBase * c .cursor + c .junction) (flag (c .more)) m, rest (junctionBase * c .cursor + c .junction) (flag (c .more)) m, over (c .cursor) (c .junction) (packs .junction), under (c .cursor) (c .junction) (packs .junction), flag-told (c .more))

@@ -108,7 +108,7 @@ labelAt ws k =
 -- the candidate of label k
 abbrev pub candidateOf : List ℕ → ℕ → Candidate
 candidateOf ws k =
-    record { cursor = cursorOf ws k; junction = field ws k cursorField / 2 % junctionBase; clock = ownOf ws k; more = moreOf ws k }
+    record { cursor = cursorOf ws k; junction = field ws k cursorField / 2 % junctionBase; clock = record { 0 = ownOf ws k }; more = moreOf ws k }
 
 -- the junction and the mark in one word
 abbrev pub placeWord : State → ℕ
@@ -125,7 +125,7 @@ pub record Packs (c : Candidate) : Type 0 where
 
 -- all words of a label
 abbrev pub wordsOf : State → ℕ → Candidate → ℕ → ℕ → List ℕ
-wordsOf s parent c winner previous = (placeWord s ∷ timesOf s) ++ (parent ∷ cursorWord c ∷ winner ∷ previous ∷ c .clock ∷ [])
+wordsOf s parent c winner previous = (placeWord s ∷ timesOf s) ++ (parent ∷ cursorWord c ∷ winner ∷ previous ∷ c .clock .0 ∷ [])
 
 -- the states of labels 1 .. n, in order
 unfoldable pub settled : List ℕ → ℕ → List State

@@ -44,13 +44,13 @@ const JUNCTION_BASE: u32 = 16384;
 pub struct Candidate {
     pub cursor: u32,
     pub junction: u32,
-    pub clock: u32,
+    pub clock: Clock,
     pub more: bool,
 }
 
 impl Candidate {
     // Above every clock.
-    pub const NO_CLOCK: u32 = 4294967295;
+    pub const NO_CLOCK: Clock = Clock(4294967295);
 
     pub const NONE: Candidate = Candidate {
         cursor: 0,
@@ -102,17 +102,17 @@ pub fn read_candidate(words: &[u32], k: usize) -> Candidate
     Candidate {
         cursor: word / 2 / JUNCTION_BASE,
         junction: word / 2 % JUNCTION_BASE,
-        clock: field(words, k, OWN),
+        clock: Clock(field(words, k, OWN)),
         more: word % 2 == 1,
     }
 }
 
 // The clock of label k's candidate.
-pub fn own_clock(words: &[u32], k: usize) -> u32
+pub fn own_clock(words: &[u32], k: usize) -> Clock
     requires { ⌜ (1 ≤ k) × (labelWords * k ≤ length (now words)) ⌝ }
-    ensures { λ r. ⌜ r ≡ ownOf (now (words .entry)) k ⌝ }
+    ensures { λ r. ⌜ r .0 ≡ ownOf (now (words .entry)) k ⌝ }
 {
-    field(words, k, OWN)
+    Clock(field(words, k, OWN))
 }
 
 pub fn winner(words: &[u32], k: usize) -> u32
@@ -151,11 +151,11 @@ fn cursor_word(c: Candidate) -> u32
 
 pub fn set_candidate(words: &mut [u32], k: usize, c: Candidate)
     requires { ⌜ (1 ≤ k) × (labelWords * k ≤ length (now words)) × Packs c ⌝ }
-    ensures { λ _. ⌜ now (words .exit) ≡ set (set (now (words .entry)) (at k cursorField) (cursorWord c)) (at k ownField) (c .clock) ⌝ }
+    ensures { λ _. ⌜ now (words .exit) ≡ set (set (now (words .entry)) (at k cursorField) (cursorWord c)) (at k ownField) (c .clock .0) ⌝ }
 {
     let cursor = cursor_word(c);
     words[State::LABEL_WORDS * (k - 1) + CURSOR] = cursor;
-    words[State::LABEL_WORDS * (k - 1) + OWN] = c.clock;
+    words[State::LABEL_WORDS * (k - 1) + OWN] = c.clock.0;
 }
 
 pub fn set_winner(words: &mut [u32], k: usize, value: u32)
@@ -224,7 +224,7 @@ fn store(
     words[i + CURSOR] = cursor;
     words[i + WINNER] = winner;
     words[i + PREVIOUS] = previous;
-    words[i + OWN] = c.clock;
+    words[i + OWN] = c.clock.0;
 }
 
 // Raises an entry to the value, if it is below it.

@@ -286,7 +286,8 @@ fn take_turn(
     if w == 0 {
         return Turn::Exhausted;
     }
-    if labels::own_clock(words, w) == Candidate::NO_CLOCK {
+    let clock = labels::own_clock(words, w);
+    if clock.0 == Candidate::NO_CLOCK.0 {
         return Turn::Exhausted;
     }
     offer(

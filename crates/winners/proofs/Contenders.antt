@@ -98,43 +98,43 @@ module _ (trip : Trip) (sound : SoundTrip trip) (ws : List ℕ) where
 
   -- Two contenders: the one with the earlier clock is the better.
   module _ {a b : Contender} (A : Stands trip ws a) (B : Stands trip ws b) where
-    pub sooner : a .clock < b .clock → keyAt trip ws (a .label) ≤ keyAt trip ws (b .label)
-    sooner h = go (decLe noClock (b .clock))
+    pub sooner : a .clock .0 < b .clock .0 → keyAt trip ws (a .label) ≤ keyAt trip ws (b .label)
+    sooner h = go (decLe noClock (b .clock .0))
       where
-        go : Dec (noClock ≤ b .clock) → keyAt trip ws (a .label) ≤ keyAt trip ws (b .label)
-        go (yes late) = rw (lead-none (b .label) (b .clock) (B .entrant) (B .clock) late) (key-top trip sound ws (a .label) (A .entrant))
+        go : Dec (noClock ≤ b .clock .0) → keyAt trip ws (a .label) ≤ keyAt trip ws (b .label)
+        go (yes late) = rw (lead-none (b .label) (b .clock .0) (B .entrant) (B .clock) late) (key-top trip sound ws (a .label) (A .entrant))
         go (no early) =
-            let p = lead-live (a .label) (a .clock) (A .entrant) (A .clock) (omega arith) in
-            let q = lead-live (b .label) (b .clock) (B .entrant) (B .clock) (omega arith) in
+            let p = lead-live (a .label) (a .clock .0) (A .entrant) (A .clock) (omega arith) in
+            let q = lead-live (b .label) (b .clock .0) (B .entrant) (B .clock) (omega arith) in
             high-rank (q .0) (p .0) (later-ranks (candidate trip ws (b .label)) (candidate trip ws (a .label)) (omega (arith, p .1, q .1)))
 
     -- with one clock both have a candidate, or neither has
-    module _ (same : a .clock ≡ b .clock) where
-      pub both-live : (a .clock ≡ noClock → ⊥) → a .clock ≤ noClock → Live trip ws (a .label) × Live trip ws (b .label)
+    module _ (same : a .clock .0 ≡ b .clock .0) where
+      pub both-live : (a .clock .0 ≡ noClock → ⊥) → a .clock .0 ≤ noClock → Live trip ws (a .label) × Live trip ws (b .label)
       both-live some high = (
-        lead-live (a .label) (a .clock) (A .entrant) (A .clock) (strict (decLe noClock (a .clock))) .0,
-        lead-live (b .label) (b .clock) (B .entrant) (B .clock) (omega (arith, strict (decLe noClock (a .clock)))) .0,
+        lead-live (a .label) (a .clock .0) (A .entrant) (A .clock) (strict (decLe noClock (a .clock .0))) .0,
+        lead-live (b .label) (b .clock .0) (B .entrant) (B .clock) (omega (arith, strict (decLe noClock (a .clock .0)))) .0,
       )
         where
-          strict : Dec (noClock ≤ a .clock) → a .clock < noClock
+          strict : Dec (noClock ≤ a .clock .0) → a .clock .0 < noClock
           strict (yes h) = absurd (some (omega arith))
           strict (no h) = omega arith
 
-      pub both-none : a .clock ≡ noClock → keyAt trip ws (a .label) ≡ keyAt trip ws (b .label)
+      pub both-none : a .clock .0 ≡ noClock → keyAt trip ws (a .label) ≡ keyAt trip ws (b .label)
       both-none none =
-          lead-none (a .label) (a .clock) (A .entrant) (A .clock) (omega arith) ∙ sym (lead-none (b .label) (b .clock) (B .entrant) (B .clock) (omega arith))
+          lead-none (a .label) (a .clock .0) (A .entrant) (A .clock) (omega arith) ∙ sym (lead-none (b .label) (b .clock .0) (B .entrant) (B .clock) (omega arith))
 
 -- the new one comes first where its clock is earlier, of two that differ
 pub precedes-clock :
-    (trip : Trip) → SoundTrip trip → (ws : List ℕ) {old new : Contender} → Stands trip ws old → Stands trip ws new → (old .clock ≡ new .clock → ⊥)
-    → Precedes trip ws (new .label) (old .label) (ltb (new .clock) (old .clock))
+    (trip : Trip) → SoundTrip trip → (ws : List ℕ) {old new : Contender} → Stands trip ws old → Stands trip ws new → (old .clock .0 ≡ new .clock .0 → ⊥)
+    → Precedes trip ws (new .label) (old .label) (ltb (new .clock .0) (old .clock .0))
 precedes-clock trip sound ws {old} {new} O N differ =
     record {
       yes = λ e. sooner trip sound ws N O (ltb-true _ _ e);
-      no = λ e. sooner trip sound ws O N (strict (ltb-false _ _ e) (decLe (new .clock) (old .clock)));
+      no = λ e. sooner trip sound ws O N (strict (ltb-false _ _ e) (decLe (new .clock .0) (old .clock .0)));
     }
   where
-    strict : old .clock ≤ new .clock → Dec (new .clock ≤ old .clock) → old .clock < new .clock
+    strict : old .clock .0 ≤ new .clock .0 → Dec (new .clock .0 ≤ old .clock .0) → old .clock .0 < new .clock .0
     strict h (yes q) = absurd (differ (omega arith))
     strict h (no q) = omega arith
 
@@ -147,25 +147,25 @@ module _ {trip : Trip} {ws : List ℕ} {a b : Contender} where
 
 -- by clocks, where these differ
 pub best-earlier :
-    (trip : Trip) → SoundTrip trip → (ws : List ℕ) {a b r : Contender} → Stands trip ws a → Stands trip ws b → (a .clock ≡ b .clock → ⊥) → Earlier a b r → Best trip ws a b r
-best-earlier trip sound ws {a} {b} {r} A B differ E = go (decLe (a .clock) (b .clock))
+    (trip : Trip) → SoundTrip trip → (ws : List ℕ) {a b r : Contender} → Stands trip ws a → Stands trip ws b → (a .clock .0 ≡ b .clock .0 → ⊥) → Earlier a b r → Best trip ws a b r
+best-earlier trip sound ws {a} {b} {r} A B differ E = go (decLe (a .clock .0) (b .clock .0))
   where
-    go : Dec (a .clock ≤ b .clock) → Best trip ws a b r
+    go : Dec (a .clock .0 ≤ b .clock .0) → Best trip ws a b r
     go (yes h) = subst (Best trip ws a b) (sym (E .first h)) (best-first (sooner trip sound ws A B (strict h)))
       where
-        strict : a .clock ≤ b .clock → a .clock < b .clock
-        strict h = cut (decLe (b .clock) (a .clock))
+        strict : a .clock .0 ≤ b .clock .0 → a .clock .0 < b .clock .0
+        strict h = cut (decLe (b .clock .0) (a .clock .0))
           where
-            cut : Dec (b .clock ≤ a .clock) → a .clock < b .clock
+            cut : Dec (b .clock .0 ≤ a .clock .0) → a .clock .0 < b .clock .0
             cut (yes q) = absurd (differ (omega arith))
             cut (no q) = omega arith
     go (no h) = subst (Best trip ws a b) (sym (E .second (omega arith))) (best-second (sooner trip sound ws B A (omega arith)))
 
 -- A label as a contender.
-pub told-none : (ws : List ℕ) {k : ℕ} → k ≡ 0 → Told ws k (record { label = 0; clock = noClock })
+pub told-none : (ws : List ℕ) {k : ℕ} → k ≡ 0 → Told ws k (record { label = 0; clock = record { 0 = noClock } })
 told-none ws e = rw e (record { is = refl; clock = refl })
 
-pub told-own : {ws : List ℕ} (k : ℕ) {clock : ℕ} → 1 ≤ k → clock ≡ ownOf ws k → Told ws k (record { label = k; clock = clock })
+pub told-own : {ws : List ℕ} (k : ℕ) {clock : ℕ} → 1 ≤ k → clock ≡ ownOf ws k → Told ws k (record { label = k; clock = record { 0 = clock } })
 told-own zero low is = absurd (omega arith)
 told-own (suc k) low is = record { is = refl; clock = is }
 
@@ -194,7 +194,7 @@ best-better P =
 
 lead-kept : (ws ws′ : List ℕ) → OnlyWinners ws ws′ → (k : ℕ) → leadClock ws′ k ≡ leadClock ws k
 lead-kept ws ws′ only zero = refl
-lead-kept ws ws′ only (suc k) = ap (λ (c : Candidate). c .clock) (only-candidate ws ws′ only (suc k))
+lead-kept ws ws′ only (suc k) = ap (λ (c : Candidate). c .clock .0) (only-candidate ws ws′ only (suc k))
 
 pub stands-kept : {trip : Trip} {c : Contender} (ws ws′ : List ℕ) → length ws′ ≡ length ws → OnlyWinners ws ws′ → Stands trip ws c → Stands trip ws′ c
 stands-kept {trip} {c} ws ws′ long only S =

@@ -101,11 +101,11 @@ module _ {trip : Trip} where
     ws₀ = set ws (at k cursorField) (cursorWord c)
 
     abbrev ws₁ : List ℕ
-    ws₁ = set ws₀ (at k ownField) (c .clock)
+    ws₁ = set ws₀ (at k ownField) (c .clock .0)
 
     same : (m : ℕ) → 1 ≤ m → labelAt ws₁ m ≡ labelAt ws m
     same m a =
-        same-label ws₀ ws₁ m (set-labels ws₀ k ownField (c .clock) m (omega arith) (omega arith) (λ e. omega arith)) m a (le-refl m)
+        same-label ws₀ ws₁ m (set-labels ws₀ k ownField (c .clock .0) m (omega arith) (omega arith) (λ e. omega arith)) m a (le-refl m)
         ∙ same-label ws ws₀ m (set-labels ws k cursorField (cursorWord c) m (omega arith) (omega arith) (λ e. omega arith)) m a (le-refl m)
 
     other : (m : ℕ) → 1 ≤ m → (m ≡ k → ⊥) → candidateOf ws₁ m ≡ candidateOf ws m
@@ -113,7 +113,7 @@ module _ {trip : Trip} where
       where
         word : (f : ℕ) → f < labelWords → field ws₁ m f ≡ field ws m f
         word f small =
-            set-label ws₀ k ownField (c .clock) (omega arith) m f low a off small
+            set-label ws₀ k ownField (c .clock .0) (omega arith) m f low a off small
             ∙ set-label ws k cursorField (cursorWord c) (omega arith) m f low a off small
 
     long : length ws₁ ≡ length ws
@@ -122,9 +122,9 @@ module _ {trip : Trip} where
     is : candidateOf ws₁ k ≡ c
     is =
         word-candidate ws₁ k c packs
-        (set-field ws₀ k ownField (c .clock) (omega arith) cursorField k (omega arith) (λ e. omega arith) k low (le-refl k)
+        (set-field ws₀ k ownField (c .clock .0) (omega arith) cursorField k (omega arith) (λ e. omega arith) k low (le-refl k)
         ∙ set-same ws k cursorField (cursorWord c) (omega arith) low (ready k low high .room))
-        (set-same ws₀ k ownField (c .clock) (omega arith) low (rw (length-set ws (at k cursorField) (cursorWord c)) (ready k low high .room)))
+        (set-same ws₀ k ownField (c .clock .0) (omega arith) low (rw (length-set ws (at k cursorField) (cursorWord c)) (ready k low high .room)))
 
     pub turned-ready : Fitting trip (labelAt ws k) c → Ready trip ws₁ n
     turned-ready fits m a b = go (ℕ-discrete m k)
@@ -144,7 +144,7 @@ module _ {trip : Trip} where
       where
         winners : Same winnerField ws ws₁ n
         winners m a b =
-            set-field ws₀ k ownField (c .clock) (omega arith) winnerField n (omega arith) (λ e. omega arith) m a b
+            set-field ws₀ k ownField (c .clock .0) (omega arith) winnerField n (omega arith) (λ e. omega arith) m a b
             ∙ set-field ws k cursorField (cursorWord c) (omega arith) winnerField n (omega arith) (λ e. omega arith) m a b
 
         go : (m : ℕ) → (m ≡ k → ⊥) → Dec (m ≤ 0) → keyAt trip ws₁ m ≡ keyAt trip ws m
@@ -159,13 +159,13 @@ module _ {trip : Trip} where
           is-candidate = only-candidate ws₁ ws′ (M .only) k ∙ is;
           candidates = λ m a off. only-candidate ws₁ ws′ (M .only) m ∙ other m a off;
           others = λ p a b d.
-              M .only p a ∙ getD-set-other ws₀ (at k ownField) p (c .clock) 0 (λ e. d (omega arith))
+              M .only p a ∙ getD-set-other ws₀ (at k ownField) p (c .clock .0) 0 (λ e. d (omega arith))
               ∙ getD-set-other ws (at k cursorField) p (cursorWord c) 0 (λ e. b (omega arith));
-          settled = settled-same ws₁ ws′ n (only-labels ws₁ ws′ (M .only) n) ∙ settled-set ws₀ k ownField (c .clock) n (omega arith) (omega arith) (λ e. omega arith)
+          settled = settled-same ws₁ ws′ n (only-labels ws₁ ws′ (M .only) n) ∙ settled-set ws₀ k ownField (c .clock .0) n (omega arith) (omega arith) (λ e. omega arith)
               ∙ settled-set ws k cursorField (cursorWord c) n (omega arith) (omega arith) (λ e. omega arith);
         }
 
-    pub turned : {ws₂ ws′ : List ℕ} → ws₂ ≡ set (set ws (at k cursorField) (cursorWord c)) (at k ownField) (c .clock) → Mended trip ws₂ ws′ n → Advanced trip ws ws′ n k c
+    pub turned : {ws₂ ws′ : List ℕ} → ws₂ ≡ set (set ws (at k cursorField) (cursorWord c)) (at k ownField) (c .clock .0) → Mended trip ws₂ ws′ n → Advanced trip ws ws′ n k c
     turned {ws′} e M = turned-from ws′ (subst (λ (l : List ℕ). Mended trip l ws′ n) e M)
 
   -- A label comes in, and wins the nodes of its path up to the first that it does not win.

@@ -23,13 +23,13 @@ leadClock ws (suc k) = ownOf ws (suc k)
 -- label k, told by its candidate's clock
 pub record Told (ws : List ℕ) (k : ℕ) (c : Contender) : Type 0 where
   pub is : c .label ≡ k
-  pub clock : c .clock ≡ leadClock ws k
+  pub clock : c .clock .0 ≡ leadClock ws k
 
 -- no label or a sound one, and its candidate's clock
 pub record Stands (trip : Trip) (ws : List ℕ) (c : Contender) : Type 0 where
   pub small : c .label < wordBase
   pub entrant : Entrant trip ws (c .label)
-  pub clock : c .clock ≡ leadClock ws (c .label)
+  pub clock : c .clock .0 ≡ leadClock ws (c .label)
 
 -- it is label k
 pub record Named (trip : Trip) (ws : List ℕ) (k : ℕ) (c : Contender) : Type 0 where
@@ -44,8 +44,8 @@ pub record Best (trip : Trip) (ws : List ℕ) (a b r : Contender) : Type 0 where
 
 -- the one with the earlier clock, the first on a tie
 pub record Earlier (a b r : Contender) : Type 0 where
-  pub second : b .clock < a .clock → r ≡ b
-  pub first : a .clock ≤ b .clock → r ≡ a
+  pub second : b .clock .0 < a .clock .0 → r ≡ b
+  pub first : a .clock .0 ≤ b .clock .0 → r ≡ a
 
 -- a label with a candidate
 pub record Live (trip : Trip) (ws : List ℕ) (k : ℕ) : Type 0 where

@@ -15,12 +15,13 @@ ghost use Rattle.winners.specs.Mending.{Told, Stands, Best, Earlier, Liv
 use labels::Candidate;
 use moves::Run;
 use roadmap::Sizes;
+use seconds::Clock;
 use states::State;
 
 // A label and its candidate's clock; label 0 is none.
 struct Contender {
     label: usize,
-    clock: u32,
+    clock: Clock,
 }
 
 // Label k as a contender.
@@ -84,10 +85,10 @@ fn precedes(
 // The better of two with one clock.
 fn tied(map: &[u8], closed: &[u8], run: Run, words: &[u32], a: Contender, b: Contender) -> Contender
     requires { ⌜ Accepted (now map) run ⌝ }
-    requires { ⌜ Stands (tripIn (now map) (closedIn (now closed)) run) (now words) a × Stands (tripIn (now map) (closedIn (now closed)) run) (now words) b × (a .clock ≡ b .clock) ⌝ }
+    requires { ⌜ Stands (tripIn (now map) (closedIn (now closed)) run) (now words) a × Stands (tripIn (now map) (closedIn (now closed)) run) (now words) b × (a .clock .0 ≡ b .clock .0) ⌝ }
     ensures { λ r. ⌜ Best (tripIn (now (map .entry)) (closedIn (now (closed .entry))) run) (now (words .entry)) a b r ⌝ }
 {
-    if a.clock == Candidate::NO_CLOCK {
+    if a.clock.0 == Candidate::NO_CLOCK.0 {
         return a;
     }
     let sizes = run.sizes;
@@ -101,7 +102,7 @@ fn tied(map: &[u8], closed: &[u8], run: Run, words: &[u32], a: Contender, b: Con
 fn earlier(a: Contender, b: Contender) -> Contender
     ensures { λ r. ⌜ Earlier a b r ⌝ }
 {
-    if b.clock < a.clock {
+    if b.clock.0 < a.clock.0 {
         return b;
     }
     a
@@ -120,7 +121,7 @@ fn better(
     requires { ⌜ Stands (tripIn (now map) (closedIn (now closed)) run) (now words) a × Stands (tripIn (now map) (closedIn (now closed)) run) (now words) b ⌝ }
     ensures { λ r. ⌜ Best (tripIn (now (map .entry)) (closedIn (now (closed .entry))) run) (now (words .entry)) a b r ⌝ }
 {
-    if a.clock == b.clock {
+    if a.clock.0 == b.clock.0 {
         return tied(map, closed, run, words, a, b);
     }
     earlier(a, b)
@@ -216,10 +217,10 @@ fn wins(map: &[u8], closed: &[u8], run: Run, words: &[u32], old: Contender, new:
     requires { ⌜ Stands (tripIn (now map) (closedIn (now closed)) run) (now words) old × Stands (tripIn (now map) (closedIn (now closed)) run) (now words) new ⌝ }
     ensures { λ r. ⌜ Precedes (tripIn (now (map .entry)) (closedIn (now (closed .entry))) run) (now (words .entry)) (new .label) (old .label) r ⌝ }
 {
-    if old.clock != new.clock {
-        return new.clock < old.clock;
+    if old.clock.0 != new.clock.0 {
+        return new.clock.0 < old.clock.0;
     }
-    if old.clock == Candidate::NO_CLOCK {
+    if old.clock.0 == Candidate::NO_CLOCK.0 {
         return false;
     }
     let sizes = run.sizes;

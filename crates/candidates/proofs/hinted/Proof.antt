@@ -11,7 +11,7 @@ use Rattle.candidates.proofs.hinted.Tie as tie
 
 -- from where the road's junction is read to where the function starts
 abbrev start : tie.After-road-from → tie.Start
-start c = c .before .before .before .before .before .before .before .before .before .before
+start c = c .before .before .before .before .before .before .before .before .before .before .before
 
 -- the junction where the road begins has an entry
 within : tie.Need-shared-slice-read-t12

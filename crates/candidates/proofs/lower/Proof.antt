@@ -18,14 +18,14 @@ returns c =
 
 returns-2 : tie.Need-returns-2
 returns-2 c =
-    let by = c .before .before .before .before in
+    let by = c .before .before .before .before .before in
     let s = by .before .before .before in
     higher (s .pre .1 .1 .0 .1)
     (rw (← by .result-by .ensures, ← s .pre .1 .1 .1 .0) (true-T (sym (c .before .ranks-no-higher .ensures) ∙ c .if2 .taken)))
 
 returns-3 : tie.Need-returns-3
 returns-3 c =
-    let by = c .before .before .before .before in
+    let by = c .before .before .before .before .before in
     let s = by .before .before .before in
     lower true _ _ (ap (λ (t : State). t .junction) (s .pre .1 .1 .1 .0)) (sym (s .pre .1 .1 .1 .1) ∙ ap (λ (t : State). t .clock .0) (s .pre .1 .1 .1 .0))
     (λ some. (rw (← by .result-by .ensures, ← s .pre .1 .1 .1 .0) (is-lower _ _ (sym (c .before .ranks-no-higher .ensures) ∙ c .if2 .left)), refl))

@@ -54,13 +54,13 @@ weigh-requires c κs =
 
 following-requires : tie.Need-following-requires Inv-loop μ-loop
 following-requires c κs =
-    let tested = c .before .before .before .before in
+    let tested = c .before .before .before .before .before in
     let s = start tested in
     (s .pre .0, (s .pre .1 .0, tested .before .loop .inv .0 (tested .loop-test .taken)))
 
 loop-less : tie.Need-loop-less Inv-loop μ-loop
 loop-less c =
-    let tested = c .before .before .before .before .before in
+    let tested = c .before .before .before .before .before .before in
     let l = tested .before .loop in
     let a = start tested .args in
     let worth = l .inv .0 (tested .loop-test .taken) in
@@ -69,8 +69,8 @@ loop-less c =
 loop-again : tie.Need-loop-again Inv-loop μ-loop
 loop-again c =
     let follows = c .following .ensures in
-    let weighed = c .before .before .before in
-    (follows .worth, tried-over follows (weighed .weigh .ensures), c .before .before .hints .given ∙ weighed .before .before .before .loop .inv .2)
+    let weighed = c .before .before .before .before in
+    (follows .worth, tried-over follows (weighed .weigh .ensures), c .before .before .before .hints .given ∙ weighed .before .before .before .loop .inv .2)
 
 returns : tie.Need-returns Inv-loop μ-loop
 returns c = tried-all (c .loop-test .left) (c .before .loop .inv .1)

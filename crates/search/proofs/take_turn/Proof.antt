@@ -34,35 +34,40 @@ own-clock-requires c κs =
 
 returns-2 : tie.Need-returns-2
 returns-2 c =
-    let s = c .before .before .before .before .before .before .before .before .before .before .before .before .before in
+    let asked = c .before .before .before in
+    let led = asked .before .before .before in
+    let s = led .before .before .before .before .before .before .before .before .before in
     let a = s .args in
     let U = s .pre .1 .0 in
     let sound = run-sound (a .map .now) (closedIn (a .closed .now)) (a .run) (s .pre .0) in
-    let some : (c .before .before .before .before .leading .result ≡ 0 → ⊥) = c .before .before .before .if1 .left in
-    let low : 1 ≤ c .before .before .before .before .leading .result = omega (arith, some) in
-    let lead = c .before .before .before .before .leading .ensures (tripIn (a .map .now) (closedIn (a .closed .now)) (a .run)) (U .tree) in
-    exhausted (leader-shut _ sound U _ lead (own-none _ sound _ _ low (U .ready _ low (lead .within)) (omega (arith, c .before .own-clock .ensures, c .if2 .taken))))
+    let some : (led .leading .result ≡ 0 → ⊥) = asked .before .before .if1 .left in
+    let low : 1 ≤ led .leading .result = omega (arith, some) in
+    let lead = led .leading .ensures (tripIn (a .map .now) (closedIn (a .closed .now)) (a .run)) (U .tree) in
+    exhausted (leader-shut _ sound U _ lead (own-none _ sound _ _ low (U .ready _ low (lead .within)) (omega (arith, asked .own-clock .ensures, c .if2 .taken))))
 
 offer-requires : tie.Need-offer-requires
 offer-requires c κs =
-    let s = c .before .before .before .before .before .before .before .before .before .before .before .before .before .before .before .before .before .before in
+    let asked = c .before .before .before .before .before .before .before .before in
+    let led = asked .before .before .before in
+    let s = led .before .before .before .before .before .before .before .before .before in
     let a = s .args in
     let U = s .pre .1 .0 in
     let sound = run-sound (a .map .now) (closedIn (a .closed .now)) (a .run) (s .pre .0) in
-    let some : (c .before .before .before .before .before .before .before .before .before .leading .result ≡ 0 → ⊥) = c .before .before .before .before .before .before .before .before .if1 .left in
-    let low : 1 ≤ c .before .before .before .before .before .before .before .before .before .leading .result = omega (arith, some) in
-    let lead = c .before .before .before .before .before .before .before .before .before .leading .ensures (tripIn (a .map .now) (closedIn (a .closed .now)) (a .run)) (U .tree) in
-    let live : (c .before .before .before .before .before .before .own-clock .result ≡ 4294967295 → ⊥) = c .before .before .before .before .before .if2 .left in
-    let is : c .before .before .before .before .before .before .own-clock .result ≡ ownOf (a .words .now) (c .before .before .before .before .before .before .before .before .before .leading .result) = c .before .before .before .before .before .before .own-clock .ensures in
-    (s .pre .0, (U, ((lead, own-live _ sound _ _ low (U .ready _ low (lead .within)) (omega (arith, live, is, c .before .before .before .before .before .before .own-clock .ok))), s .pre .1 .1)))
+    let some : (led .leading .result ≡ 0 → ⊥) = asked .before .before .if1 .left in
+    let low : 1 ≤ led .leading .result = omega (arith, some) in
+    let lead = led .leading .ensures (tripIn (a .map .now) (closedIn (a .closed .now)) (a .run)) (U .tree) in
+    let live : (asked .own-clock .result .0 ≡ 4294967295 → ⊥) = c .before .before .before .before .before .if2 .left in
+    let is : asked .own-clock .result .0 ≡ ownOf (a .words .now) (led .leading .result) = asked .own-clock .ensures in
+    (s .pre .0, (U, ((lead, own-live _ sound _ _ low (U .ready _ low (lead .within)) (omega (arith, live, is, asked .own-clock .ok))), s .pre .1 .1)))
 
 returns-3 : tie.Need-returns-3
 returns-3 c =
-    let s = c .before .before .before .before .before .before .before .before .before .before .before .before .before .before .before .before .before .before .before .before .before .before .before .before .before .before .before .before .before in
+    let led = c .before .before .before .before .before .before .before .before .before .before .before .before .before .before .before .before .before .before .before .before .before .before in
+    let s = led .before .before .before .before .before .before .before .before .before in
     let a = s .args in
     let U = s .pre .1 .0 in
-    let some : (c .before .before .before .before .before .before .before .before .before .before .before .before .before .before .before .before .before .before .before .before .leading .result ≡ 0 → ⊥) = c .before .before .before .before .before .before .before .before .before .before .before .before .before .before .before .before .before .before .before .if1 .left in
-    let lead = c .before .before .before .before .before .before .before .before .before .before .before .before .before .before .before .before .before .before .before .before .leading .ensures (tripIn (a .map .now) (closedIn (a .closed .now)) (a .run)) (U .tree) in
+    let some : (led .leading .result ≡ 0 → ⊥) = c .before .before .before .before .before .before .before .before .before .before .before .before .before .before .before .before .before .before .before .before .before .if1 .left in
+    let lead = led .leading .ensures (tripIn (a .map .now) (closedIn (a .closed .now)) (a .run)) (U .tree) in
     says-below (root-least _ (run-sound (a .map .now) (closedIn (a .closed .now)) (a .run) (s .pre .0)) U _ (omega (arith, some)) (lead .within)) (c .before .before .before .before .before .before .before .before .before .before .offer .ensures)
 
 pub take-turn-spec : {M : Type 1} → statement M

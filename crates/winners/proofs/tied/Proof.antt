@@ -9,13 +9,13 @@ use Rattle.winners.proofs.tied.Tie as tie
 
 returns : tie.Need-returns
 returns c =
-    let s = c .before .before .before .before .before in
+    let s = c .before .before .before .before .before .before in
     let trip = tripIn (s .args .map .now) (closedIn (s .args .closed .now)) (s .args .run) in
     best-first (rw (both-none trip (run-sound (s .args .map .now) (closedIn (s .args .closed .now)) (s .args .run) (s .pre .0)) (s .args .words .now) (s .pre .1 .0) (s .pre .1 .1) (s .pre .1 .2) (c .if1 .taken)) (le-refl _))
 
 precedes-requires : tie.Need-precedes-requires
 precedes-requires c κs =
-    let s = c .before .before .before .before .before .before in
+    let s = c .before .before .before .before .before .before .before in
     let trip = tripIn (s .args .map .now) (closedIn (s .args .closed .now)) (s .args .run) in
     ((s .pre .0, cc), both-live trip (run-sound (s .args .map .now) (closedIn (s .args .closed .now)) (s .args .run) (s .pre .0)) (s .args .words .now) (s .pre .1 .0) (s .pre .1 .1) (s .pre .1 .2) (c .before .if1 .left) (omega arith))
 
