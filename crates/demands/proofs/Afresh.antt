@@ -15,12 +15,13 @@ use Rattle.replies.specs.Told.{succeeded, toldTiming, toldPlan}
 use Rattle.replies.proofs.First.{none-of-both, none-at-all}
 use Rattle.roadmap.specs.Format.{junctionCount}
 use Rattle.mapcheck.specs.MapCheck.{mapTests}
-use Rattle.driving.specs.Order.{orderOf, orderTests}
+use Rattle.driving.specs.Order.{orderTests}
 use Rattle.states.specs.declared.State.{State}
 use Rattle.states.proofs.Compared.{covers-clock}
 use Rattle.moves.specs.declared.Move.{Move}
 use Rattle.moves.specs.Trip.{Trip, tripOf}
 use Rattle.moves.specs.Moves.{after}
+use Rattle.moves.specs.Given.{Given, orderFrom, tripFrom}
 use Rattle.moves.specs.RunTests.{runTests}
 use Rattle.sheets.specs.declared.Heading.{Heading}
 use Rattle.sheets.specs.declared.Row.{Row}
@@ -30,7 +31,6 @@ use Rattle.retiming.specs.Retiming.{movesOn, timing, sheetTests, retimingTests,
 use Rattle.retiming.proofs.Walking.{walk-end, walk-moved}
 use Rattle.journeys.specs.Journeys.{startIn, atTarget, Leads, stay, go, Journey}
 use Rattle.journeys.specs.Plan.{planMoves, rowsFrom, planRows}
-use Rattle.journeys.specs.Planning.{tripFrom}
 use Rattle.journeys.specs.Compared.{EasierRun}
 use Rattle.journeys.proofs.Journeys.{moved}
 use Rattle.journeys.proofs.Runs.{run-answer}
@@ -48,18 +48,18 @@ walk-leads tb ta k a {b} (go {m = m} {ms = ms} offered lawful rest) =
     ∙ ap (recorded _) (walk-leads tb ta (k + 1) (after ta a m) rest)
 
 -- the tests of an accepted run
-pub none-run : {map order : List ℕ} → AcceptedRun map order → NoneFits (runTests map order)
-none-run {map} {order} accepted = none-of-both (mapTests map) (orderTests (junctionCount map) order) (accepted .mapped) (accepted .ordered)
+pub none-run : {given : Given} → AcceptedRun given → NoneFits (runTests given)
+none-run {given} accepted = none-of-both (mapTests (given .map)) (orderTests (junctionCount (given .map)) (given .order)) (accepted .mapped) (accepted .ordered)
 
-module _ {mapA orderA words sheet sheet′ : List ℕ} {answer : Planning} (w : Wrote mapA orderA words sheet sheet′ answer)
-    {mapB orderB : List ℕ} (accepted-b : AcceptedRun mapB orderB)
-    {u : State} (journey : Journey (tripFrom mapB orderB) (planMoves (tripFrom mapA orderA)) u)
+module _ {a : Given} {words sheet sheet′ : List ℕ} {answer : Planning} (w : Wrote a words sheet sheet′ answer)
+    {b : Given} (accepted-b : AcceptedRun b)
+    {u : State} (journey : Journey (tripFrom b) (planMoves (tripFrom a)) u)
     (out : List ℕ) (long : length (headerAndRecords sheet′) ≤ length out) where
   abbrev ta : Trip
-  ta = tripFrom mapA orderA
+  ta = tripFrom a
 
   abbrev tb : Trip
-  tb = tripFrom mapB orderB
+  tb = tripFrom b
 
   abbrev true-rows : List Row
   true-rows = rowsFrom tb (startIn tb) (planMoves ta)
@@ -71,36 +71,36 @@ module _ {mapA orderA words sheet sheet′ : List ℕ} {answer : Planning} (w : 
   count-kept : movesOn (headerAndRecords sheet′) ≡ movesOn sheet′
   count-kept = ap (λ (h : Heading). h .moves) (heading-kept w ∙ sym (heading-written w))
 
-  at-target : stray (orderOf orderB .target) (reached u true-rows) ≡ none
+  at-target : stray (orderFrom b .target) (reached u true-rows) ≡ none
   unfolding tripOf atTarget
   at-target = rw (journey .ends) refl
 
   abbrev late-tests : List Test
-  late-tests = sheetTests (orderOf orderB) (headerAndRecords sheet′) (reached u true-rows) ++ ((14 at shortSheet (movesOn (headerAndRecords sheet′)) (length out)) ∷ [])
+  late-tests = sheetTests (orderFrom b) (headerAndRecords sheet′) (reached u true-rows) ++ ((14 at shortSheet (movesOn (headerAndRecords sheet′)) (length out)) ∷ [])
 
   none-late : NoneFits late-tests
   none-late = (kept-untorn w, (refl, (at-target, (rw (count-kept, ← length-kept w, le-ltb _ _ long) refl, tt))))
 
   -- retiming them under B replies 0, A's M and the clock that they lead to
-  retimed-afresh : retimingReply mapB orderB (headerAndRecords sheet′) out ≡ succeeded (movesOn sheet′) (u .clock .0)
+  retimed-afresh : retimingReply b (headerAndRecords sheet′) out ≡ succeeded (movesOn sheet′) (u .clock .0)
   retimed-afresh =
-      ap (λ (t : Walk). firstOf (retimingTests mapB orderB (headerAndRecords sheet′) out t) (succeeded (movesOn (headerAndRecords sheet′)) (arrivalReached t))) walked
-      ∙ none-at-all (runTests mapB orderB ++ late-tests) _ (none-of-both (runTests mapB orderB) late-tests (none-run accepted-b) none-late)
+      ap (λ (t : Walk). firstOf (retimingTests b (headerAndRecords sheet′) out t) (succeeded (movesOn (headerAndRecords sheet′)) (arrivalReached t))) walked
+      ∙ none-at-all (runTests b ++ late-tests) _ (none-of-both (runTests b) late-tests (none-run accepted-b) none-late)
       ∙ ap (λ (m : ℕ). succeeded m (u .clock .0)) count-kept
 
 -- A's moves under B: where they lead, and what retiming replies
-pub record Afresh (mapB orderB sheetA′ : List ℕ) (answerA : Planning) : Type 0 where
+pub record Afresh (b : Given) (sheetA′ : List ℕ) (answerA : Planning) : Type 0 where
   pub state : State
-  pub journey : Journey (tripFrom mapB orderB) (movesRead sheetA′) state
+  pub journey : Journey (tripFrom b) (movesRead sheetA′) state
   pub no-later : state .clock .0 ≤ toldPlan answerA .arrival
-  pub told : {out out′ : List ℕ} {answer : Timing} → TimedAfresh mapB orderB sheetA′ out out′ answer → toldTiming answer ≡ succeeded (movesOn sheetA′) (state .clock .0)
+  pub told : {out out′ : List ℕ} {answer : Timing} → TimedAfresh b sheetA′ out out′ answer → toldTiming answer ≡ succeeded (movesOn sheetA′) (state .clock .0)
 
-pub afresh : {mapA orderA mapB orderB : List ℕ} → AcceptedRun mapA orderA → AcceptedRun mapB orderB → EasierRun mapB orderB mapA orderA →
-    {wordsA wordsA′ sheetA sheetA′ : List ℕ} {answerA : Planning} → Planned mapA orderA wordsA wordsA′ sheetA sheetA′ answerA → Plans answerA →
-    Afresh mapB orderB sheetA′ answerA
-afresh {mapA} {orderA} {mapB} {orderB} accepted-a accepted-b easier run plans =
+pub afresh : {a b : Given} → AcceptedRun a → AcceptedRun b → EasierRun b a →
+    {wordsA wordsA′ sheetA sheetA′ : List ℕ} {answerA : Planning} → Planned a wordsA wordsA′ sheetA sheetA′ answerA → Plans answerA →
+    Afresh b sheetA′ answerA
+afresh {a} {b} accepted-a accepted-b easier run plans =
     let w = wrote accepted-a run plans in
-    let eased = run-answer mapB orderB mapA orderA easier (accepted-a .mapped) (accepted-a .ordered) (accepted-b .mapped) (accepted-b .ordered) (w .answered) in
+    let eased = run-answer b a easier (accepted-a .mapped) (accepted-a .ordered) (accepted-b .mapped) (accepted-b .ordered) (w .answered) in
     record {
       state = eased .timed-plan .reached;
       journey = rw (moves-written w) (eased .timed-plan .journey);

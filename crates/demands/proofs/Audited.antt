@@ -14,11 +14,11 @@ use Rattle.replies.specs.First.{Test, _at_, NoneFits}
 use Rattle.replies.specs.Told.{succeeded}
 use Rattle.replies.proofs.First.{none-fitted, none-at-all, none-before, none-behind, none-under}
 use Rattle.mapcheck.proofs.Counts.{placed-none}
-use Rattle.driving.specs.Order.{orderOf}
 use Rattle.states.specs.declared.State.{State}
 use Rattle.moves.specs.declared.Step.the-variants.{Moved}
 use Rattle.moves.specs.Trip.{Trip}
 use Rattle.moves.specs.Moves.{stepped}
+use Rattle.moves.specs.Given.{Given, orderFrom, tripFrom}
 use Rattle.moves.specs.RunTests.{runTests}
 use Rattle.sheets.specs.declared.Row.{Row}
 use Rattle.sheets.specs.Sheet.{headingOf, rowsOf, sheetNeeded}
@@ -29,7 +29,6 @@ use Rattle.retiming.proofs.Walking.{OneRow, stops, passes, one-row, walk-end, w
 use Rattle.retiming.proofs.Rewriting.{cut}
 use Rattle.retiming.proofs.Audited.{never-reached, Met, met, audit-numbered}
 use Rattle.journeys.specs.Journeys.{startIn, atTarget}
-use Rattle.journeys.specs.Planning.{tripFrom}
 use Rattle.demands.specs.Runs.{movesRead, HoldsJourney}
 use Rattle.demands.proofs.Retimed.{ends-at, Passed, walk-passed}
 
@@ -55,28 +54,28 @@ walk-same trip k s (row ∷ rs) {l} {ys} e = by (one-row true trip k s row) (λ 
         ∙ ap (λ (zs : List Row). trueRow row t ∷ zs) (on t (first .zs) (first .rest))
         ∙ sym (first .is)
 
-module _ (bytes order sheet : List ℕ) (number-0 : auditReply bytes order sheet .number ≡ 0) where
+module _ (given : Given) (sheet : List ℕ) (number-0 : auditReply given sheet .number ≡ 0) where
   abbrev trip : Trip
-  trip = tripFrom bytes order
+  trip = tripFrom given
 
   abbrev walked : Walk
   walked = timing true trip sheet
 
-  none-fit : NoneFits (auditTests bytes order sheet walked)
-  none-fit = none-fitted (auditTests bytes order sheet walked) _ (audit-numbered bytes order sheet) number-0
+  none-fit : NoneFits (auditTests given sheet walked)
+  none-fit = none-fitted (auditTests given sheet walked) _ (audit-numbered given sheet) number-0
 
   -- once the run is opened: the sheet's refusals, and 18 for the header
   abbrev header-test : Walk → List Test
   header-test w = (18 at falseHeader (headingOf sheet) w) ∷ []
 
   abbrev opened-tests : Walk → List Test
-  opened-tests w = sheetTests (orderOf order) sheet w ++ header-test w
+  opened-tests w = sheetTests (orderFrom given) sheet w ++ header-test w
 
   late : NoneFits (opened-tests walked)
-  late = none-behind (runTests bytes order) (opened-tests walked) none-fit
+  late = none-behind (runTests given) (opened-tests walked) none-fit
 
   end : Met walked
-  end = met (orderOf order) sheet walked (none-before (sheetTests (orderOf order) sheet walked) (header-test walked) late)
+  end = met (orderFrom given) sheet walked (none-before (sheetTests (orderFrom given) sheet walked) (header-test walked) late)
 
   -- where the moves lead
   pub reached-by : State
@@ -98,7 +97,7 @@ module _ (bytes order sheet : List ℕ) (number-0 : auditReply bytes order sheet
   late-reached = rw found at late
 
   at-target : atTarget trip reached-by ≡ true
-  at-target = ends-at bytes order reached-by (end .rows) (none-under 19 (opened-tests (reached reached-by (end .rows))) late-reached)
+  at-target = ends-at given reached-by (end .rows) (none-under 19 (opened-tests (reached reached-by (end .rows))) late-reached)
 
   long : sheetNeeded (movesOn sheet) ≤ length sheet
   long = omega (arith, none-whole sheet (none-under 15 (opened-tests walked) late) .exact)
@@ -124,5 +123,5 @@ module _ (bytes order sheet : List ℕ) (number-0 : auditReply bytes order sheet
         week = ap (λ (n : ℕ). record { 0 = n }) (eqb-true _ _ (not-false _ (last .1)));
       }
 
-  pub audited-told : auditReply bytes order sheet ≡ succeeded (movesOn sheet) (reached-by .clock .0)
-  audited-told = none-at-all (auditTests bytes order sheet walked) _ none-fit ∙ ap (λ (w : Walk). succeeded (movesOn sheet) (arrivalReached w)) found
+  pub audited-told : auditReply given sheet ≡ succeeded (movesOn sheet) (reached-by .clock .0)
+  audited-told = none-at-all (auditTests given sheet walked) _ none-fit ∙ ap (λ (w : Walk). succeeded (movesOn sheet) (arrivalReached w)) found

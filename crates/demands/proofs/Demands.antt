@@ -30,13 +30,14 @@ use Rattle.mapedit.specs.Chaining.{chained, chainingReply, afterChaining, Chain
 use Rattle.driving.specs.declared.Figures.{Figures}
 use Rattle.driving.specs.declared.Rules.{Rules}
 use Rattle.driving.specs.Accepted.{FiguresRise}
-use Rattle.driving.specs.Order.{orderOf, badFigures, orderTests}
+use Rattle.driving.specs.Order.{badFigures, orderTests}
 use Rattle.replay.specs.Trace.{recordCount, recordsOf}
 use Rattle.replay.specs.Replay.{upToDate, tornTrace, replayTests, Replayed}
 use Rattle.replay.specs.InTurn.{noneGoesOn, behind}
 use Rattle.states.specs.declared.State.{State}
 use Rattle.moves.specs.declared.Move.{Move}
 use Rattle.moves.specs.Trip.{Trip, tripOf}
+use Rattle.moves.specs.Given.{Given, onMap, orderFrom, tripFrom}
 use Rattle.moves.specs.RunTests.{runTests}
 use Rattle.sheets.specs.declared.Heading.{Heading}
 use Rattle.sheets.specs.Sheet.{headingOf, sheetNeeded}
@@ -46,14 +47,14 @@ use Rattle.journeys.specs.Journeys.{Reached, Journey, totalSeconds}
 use Rattle.states.specs.States.{ranksNoHigher}
 use Rattle.journeys.specs.Labels.{labelCount}
 use Rattle.journeys.specs.Plan.{bytesNeeded}
-use Rattle.journeys.specs.Planning.{beforeSearch, tripFrom, searchTests, planTests, planReply, planSheet}
+use Rattle.journeys.specs.Planning.{beforeSearch, searchTests, planTests, planReply, planSheet}
 use Rattle.states.specs.LabelSpace.{labelsThatFit}
 use Rattle.journeys.specs.Compared.{EasierRun}
 use Rattle.retiming.proofs.Audited.{retiming-numbered, audit-numbered}
 use Rattle.journeys.proofs.Journeys.{leads-clock, reached-rise}
 use Rattle.journeys.proofs.Planning.{accepted-sound, sheet-refused, reply-any-fit, sheet-any-fit}
 use Rattle.planner.specs.Planned.{Planned}
-use Rattle.planner.specs.Preview.{closureTests, previewSheet, Previewed}
+use Rattle.planner.specs.Preview.{struckGiven, closureTests, previewSheet, Previewed}
 use Rattle.planner.proofs.Previewing.{preview-listed}
 use Rattle.demands.specs.Refused.{RepliesBy}
 use Rattle.demands.specs.Counted.{CountsLabels}
@@ -115,22 +116,22 @@ pair-test-passes first second is-first is-second bad tested = (
   λ letters. tested ∙ rw (letters-exactly first is-first .1 (letters .0), letters-exactly second is-second .1 (letters .1)) refl,
 )
 
-pub audit-replies : (map order sheet : List ℕ) (answer : Timing) → toldTiming answer ≡ auditReply map order sheet →
-    RepliesBy (auditTests map order sheet (timing true (tripFrom map order) sheet)) (toldTiming answer)
-audit-replies map order sheet answer told = replies-by (auditTests map order sheet (timing true (tripFrom map order) sheet)) _ refl (audit-numbered map order sheet) told
+pub audit-replies : (given : Given) (sheet : List ℕ) (answer : Timing) → toldTiming answer ≡ auditReply given sheet →
+    RepliesBy (auditTests given sheet (timing true (tripFrom given) sheet)) (toldTiming answer)
+audit-replies given sheet answer told = replies-by (auditTests given sheet (timing true (tripFrom given) sheet)) _ refl (audit-numbered given sheet) told
 
 -- "Audit: retiming without writing, comparing clocks and header": the bytes of a sheet that passes hold a legal journey with true figures, whose
 -- arrival is the reply's
-module _ (map order sheet : List ℕ) (answer : Timing) (told : toldTiming answer ≡ auditReply map order sheet) (done : toldTiming answer .number ≡ 0) where
-  pub audit-holds : (t : State) × HoldsJourney (tripFrom map order) sheet t × (toldTiming answer .arrival ≡ t .clock .0)
+module _ (given : Given) (sheet : List ℕ) (answer : Timing) (told : toldTiming answer ≡ auditReply given sheet) (done : toldTiming answer .number ≡ 0) where
+  pub audit-holds : (t : State) × HoldsJourney (tripFrom given) sheet t × (toldTiming answer .arrival ≡ t .clock .0)
   audit-holds =
       let passed = rw told at done in
-      (reached-by map order sheet passed, audited-holds map order sheet passed, ap (λ (r : Reply). r .arrival) (told ∙ audited-told map order sheet passed))
+      (reached-by given sheet passed, audited-holds given sheet passed, ap (λ (r : Reply). r .arrival) (told ∙ audited-told given sheet passed))
 
   -- "Arrival less departure is the sum of its road times, breaks and rests." A part "counts as a break" (document 02, P5), and a weekly rest as a rest (P7).
-  pub audit-seconds : toldTiming answer .arrival ≡ orderOf order .departure .0 + totalSeconds (tripFrom map order) (movesRead sheet)
+  pub audit-seconds : toldTiming answer .arrival ≡ orderFrom given .departure .0 + totalSeconds (tripFrom given) (movesRead sheet)
   unfolding tripOf
-  audit-seconds = audit-holds .2 ∙ leads-clock (tripFrom map order) (audit-holds .1 .journey .leads)
+  audit-seconds = audit-holds .2 ∙ leads-clock (tripFrom given) (audit-holds .1 .journey .leads)
 
 module _ {map map′ : List ℕ} {answer : Check} (made : ChainMaking map map′ answer) where
   pub chain-making-replies : RepliesBy (chainingTests map) (toldCheck answer)
@@ -224,9 +225,9 @@ module _ {one two : List ℕ} {rules : Rules} {before between after after-both :
   pub replay-in-turn-refused : ¬ (toldReplaying first .number ≡ 0) → tornTrace one ≡ none → tornTrace two ≡ none → toldReplaying both ≡ toldReplaying first
   replay-in-turn-refused = told-first two replayed-one replayed-both
 
-module _ {map order sheet out out′ : List ℕ} {answer : Timing} (retimed : Retimed map order sheet out out′ answer) where
-  pub retiming-replies : RepliesBy (retimingTests map order sheet out (timing false (tripFrom map order) sheet)) (toldTiming answer)
-  retiming-replies = replies-by (retimingTests map order sheet out (timing false (tripFrom map order) sheet)) _ refl (retiming-numbered map order sheet out) (retimed .reply)
+module _ {given : Given} {sheet out out′ : List ℕ} {answer : Timing} (retimed : Retimed given sheet out out′ answer) where
+  pub retiming-replies : RepliesBy (retimingTests given sheet out (timing false (tripFrom given) sheet)) (toldTiming answer)
+  retiming-replies = replies-by (retimingTests given sheet out (timing false (tripFrom given) sheet)) _ refl (retiming-numbered given sheet out) (retimed .reply)
 
   -- "a refusal leaves the sheet's bytes untouched"
   pub retiming-leaves : ¬ (toldTiming answer .number ≡ 0) → out′ ≡ out
@@ -238,7 +239,7 @@ module _ {map order sheet out out′ : List ℕ} {answer : Timing} (retimed : Re
 
   module _ (done : toldTiming answer .number ≡ 0) where
     -- "writes the same moves with true figures, N copied, to another sheet": its bytes hold a legal journey, whose arrival is the reply's
-    pub retiming-writes : (t : State) × HoldsJourney (tripFrom map order) out′ t × (toldTiming answer .arrival ≡ t .clock .0)
+    pub retiming-writes : (t : State) × HoldsJourney (tripFrom given) out′ t × (toldTiming answer .arrival ≡ t .clock .0)
     retiming-writes = (state retimed done, retimed-holds retimed done, ap (λ (r : Reply). r .arrival) (told-retimed retimed done))
 
     pub retiming-copies : (movesRead out′ ≡ movesRead sheet) × (headingOf out′ .labels ≡ headingOf sheet .labels)
@@ -249,30 +250,30 @@ module _ {map order sheet out out′ : List ℕ} {answer : Timing} (retimed : Re
     retiming-keeps = rest-retimed retimed done
 
     -- "Arrival less departure is the sum of its road times, breaks and rests." A part "counts as a break" (document 02, P5), and a weekly rest as a rest (P7).
-    pub retiming-seconds : toldTiming answer .arrival ≡ orderOf order .departure .0 + totalSeconds (tripFrom map order) (movesRead out′)
+    pub retiming-seconds : toldTiming answer .arrival ≡ orderFrom given .departure .0 + totalSeconds (tripFrom given) (movesRead out′)
     unfolding tripOf
-    retiming-seconds = retiming-writes .2 ∙ leads-clock (tripFrom map order) (retiming-writes .1 .journey .leads)
+    retiming-seconds = retiming-writes .2 ∙ leads-clock (tripFrom given) (retiming-writes .1 .journey .leads)
 
     -- its header and M records pass the audit, with the same reply
-    pub retiming-audited : (audited : Timing) → toldTiming audited ≡ auditReply map order (headerAndRecords out′) → toldTiming audited ≡ toldTiming answer
+    pub retiming-audited : (audited : Timing) → toldTiming audited ≡ auditReply given (headerAndRecords out′) → toldTiming audited ≡ toldTiming answer
     retiming-audited audited told = told ∙ retimed-passes retimed done
 
-module _ {map order words words′ sheet sheet′ : List ℕ} {answer : Planning} (run : Planned map order words words′ sheet sheet′ answer) where
+module _ {given : Given} {words words′ sheet sheet′ : List ℕ} {answer : Planning} (run : Planned given words words′ sheet sheet′ answer) where
   abbrev trip : Trip
-  trip = tripFrom map order
+  trip = tripFrom given
 
   abbrev fit : ℕ
   fit = labelsThatFit (length words)
 
-  pub planning-replies : RepliesBy (planTests map order fit (length sheet)) (toldPlan answer)
+  pub planning-replies : RepliesBy (planTests given fit (length sheet)) (toldPlan answer)
   unfolding planReply
-  planning-replies = replies-by (planTests map order fit (length sheet)) _ refl tt (run .reply)
+  planning-replies = replies-by (planTests given fit (length sheet)) _ refl tt (run .reply)
 
   -- "a refusal leaves the sheet's bytes untouched"
   pub planning-leaves : ¬ Plans answer → sheet′ ≡ sheet
-  planning-leaves refused = run .bytes ∙ sheet-refused map order fit sheet (λ e. refused (ap (λ (r : Reply). r .number) (run .reply) ∙ e))
+  planning-leaves refused = run .bytes ∙ sheet-refused given fit sheet (λ e. refused (ap (λ (r : Reply). r .number) (run .reply) ∙ e))
 
-  wrote-plan : Plans answer → Wrote map order words sheet sheet′ answer
+  wrote-plan : Plans answer → Wrote given words sheet sheet′ answer
   unfolding memb
   wrote-plan plans = wrote (accepted-by run (rw plans refl)) run plans
 
@@ -296,7 +297,7 @@ module _ {map order words words′ sheet sheet′ : List ℕ} {answer : Planning
   plan-obeys plans = let w = wrote-plan plans in (w .state, holds-journey w, ap (λ (r : Reply). r .arrival) (w .told))
 
   -- "Arrival less departure is the sum of its road times, breaks and rests." A part "counts as a break" (document 02, P5), and a weekly rest as a rest (P7).
-  pub plan-seconds : Plans answer → toldPlan answer .arrival ≡ orderOf order .departure .0 + totalSeconds trip (movesRead sheet′)
+  pub plan-seconds : Plans answer → toldPlan answer .arrival ≡ orderFrom given .departure .0 + totalSeconds trip (movesRead sheet′)
   unfolding tripOf
   plan-seconds plans = plan-obeys plans .2 ∙ leads-clock trip (plan-obeys plans .1 .journey .leads)
 
@@ -308,7 +309,7 @@ module _ {map order words words′ sheet sheet′ : List ℕ} {answer : Planning
   pub plan-lowest : Plans answer → (t : State) → HoldsJourney trip sheet′ t → (ms : List Move) (u : State) → Journey trip ms u → T (ranksNoHigher t u)
   plan-lowest plans t held ms u journey = none-lower (wrote-plan plans) held journey
 
-  module _ (accepted : AcceptedRun map order) where
+  module _ (accepted : AcceptedRun given) where
     -- "For an accepted map and order, 'full' is said exactly when the label count of document 01 exceeds the label space;"
     pub full-exactly : SaysFull answer ↔ (fit < labelCount trip)
     full-exactly = full-said accepted run
@@ -326,11 +327,11 @@ module _ {map order words words′ sheet sheet′ : List ℕ} {answer : Planning
 
     -- the label count of document 01: how many distinct reachable undominated states rank no higher than the answer's; with no journey, all of them
     pub label-count : (n : ℕ) → CountsLabels trip n ↔ (n ≡ labelCount trip)
-    label-count = counts-labels trip (accepted-sound map order (accepted .mapped) (accepted .ordered))
+    label-count = counts-labels trip (accepted-sound given (accepted .mapped) (accepted .ordered))
 
     -- spell ≤ shift ≤ week holds in every reachable state (document 02, P7)
     pub figures-rise : (s : State) → Reached trip s → FiguresRise (s .figures)
-    figures-rise s reached = reached-rise trip (accepted-sound map order (accepted .mapped) (accepted .ordered)) reached
+    figures-rise s reached = reached-rise trip (accepted-sound given (accepted .mapped) (accepted .ordered)) reached
 
   -- "full" is told with the labels that fit
   pub full-told : SaysFull answer → toldPlan answer .place ≡ fit
@@ -351,57 +352,57 @@ module _ {map order words words′ sheet sheet′ : List ℕ} {answer : Planning
 -- departure and latest arrival. Suppose that in B no road takes longer, no limit is lower, no break or rest is longer, no starting figure is
 -- higher, and each car park of A is one." Document 02, P5: "where A has a split so has B, with parts no longer than A's." P7: "week limit is one
 -- of the limits, week figure one of the starting figures, and B's weekly rest is no longer than A's." "Whenever A plans,"
-module _ {mapA orderA mapB orderB : List ℕ} (accepted-a : AcceptedRun mapA orderA) (accepted-b : AcceptedRun mapB orderB) (easier : EasierRun mapB orderB mapA orderA)
-    {wordsA wordsA′ sheetA sheetA′ : List ℕ} {answerA : Planning} (run-a : Planned mapA orderA wordsA wordsA′ sheetA sheetA′ answerA) (plans-a : Plans answerA) where
-  under-b : Afresh mapB orderB sheetA′ answerA
+module _ {a b : Given} (accepted-a : AcceptedRun a) (accepted-b : AcceptedRun b) (easier : EasierRun b a)
+    {wordsA wordsA′ sheetA sheetA′ : List ℕ} {answerA : Planning} (run-a : Planned a wordsA wordsA′ sheetA sheetA′ answerA) (plans-a : Plans answerA) where
+  under-b : Afresh b sheetA′ answerA
   under-b = afresh accepted-a accepted-b easier run-a plans-a
 
   -- "A's moves timed afresh under B are legal and arrive no later than A."
-  pub timed-afresh : {out out′ : List ℕ} {answer : Timing} → TimedAfresh mapB orderB sheetA′ out out′ answer →
+  pub timed-afresh : {out out′ : List ℕ} {answer : Timing} → TimedAfresh b sheetA′ out out′ answer →
       (toldTiming answer .number ≡ 0) × (toldTiming answer .place ≡ movesOn sheetA′) × (toldTiming answer .arrival ≤ toldPlan answerA .arrival)
   timed-afresh timed =
       let told = under-b .told timed in
       (ap (λ (r : Reply). r .number) told, ap (λ (r : Reply). r .place) told, omega (arith, ap (λ (r : Reply). r .arrival) told, under-b .no-later))
 
-  module _ {wordsB wordsB′ sheetB sheetB′ : List ℕ} {answerB : Planning} (run-b : Planned mapB orderB wordsB wordsB′ sheetB sheetB′ answerB) where
+  module _ {wordsB wordsB′ sheetB sheetB′ : List ℕ} {answerB : Planning} (run-b : Planned b wordsB wordsB′ sheetB sheetB′ answerB) where
     -- "B then never says 'no road',"
     pub easier-never-no-road : ¬ SaysNoRoad answerB
     easier-never-no-road no-road = no-road-said accepted-b run-b (λ full. omega (arith, full)) .0 no-road _ _ (under-b .journey)
 
     -- "and says 'full' exactly when B's own label count exceeds B's label space."
-    pub easier-full-exactly : SaysFull answerB ↔ (labelsThatFit (length wordsB) < labelCount (tripFrom mapB orderB))
+    pub easier-full-exactly : SaysFull answerB ↔ (labelsThatFit (length wordsB) < labelCount (tripFrom b))
     easier-full-exactly = full-said accepted-b run-b
 
     -- "If B isn't full and its sheet is long enough, B plans,"
-    pub easier-plans : ¬ SaysFull answerB → bytesNeeded (tripFrom mapB orderB) ≤ length sheetB → Plans answerB
+    pub easier-plans : ¬ SaysFull answerB → bytesNeeded (tripFrom b) ≤ length sheetB → Plans answerB
     easier-plans not-full = plans-said accepted-b run-b not-full easier-never-no-road
 
     -- "and arrives no later than those moves timed afresh."
-    pub easier-no-later : Plans answerB → {out out′ : List ℕ} {answer : Timing} → TimedAfresh mapB orderB sheetA′ out out′ answer →
+    pub easier-no-later : Plans answerB → {out out′ : List ℕ} {answer : Timing} → TimedAfresh b sheetA′ out out′ answer →
         toldPlan answerB .arrival ≤ toldTiming answer .arrival
     easier-no-later plans-b timed =
         omega (arith, ap (λ (r : Reply). r .arrival) (under-b .told timed), none-earlier (wrote accepted-b run-b plans-b) (under-b .journey))
 
-not-full-told : {map order words words′ sheet sheet′ : List ℕ} {answer : Planning} → Planned map order words words′ sheet sheet′ answer → ¬ SaysFull answer →
-    ¬ (planReply map order (labelsThatFit (length words)) (length sheet) .number ≡ 12)
+not-full-told : {given : Given} {words words′ sheet sheet′ : List ℕ} {answer : Planning} → Planned given words words′ sheet sheet′ answer → ¬ SaysFull answer →
+    ¬ (planReply given (labelsThatFit (length words)) (length sheet) .number ≡ 12)
 not-full-told run not-full e = not-full (ap (λ (r : Reply). r .number) (run .reply) ∙ e)
 
 -- "Also, for any two planning runs that differ only in label space, where neither says 'full', their answers are equal and so is every byte of
 -- their sheets."
-pub any-label-space : {map order words₁ words₁′ words₂ words₂′ sheet sheet₁′ sheet₂′ : List ℕ} {answer₁ answer₂ : Planning} →
-    Planned map order words₁ words₁′ sheet sheet₁′ answer₁ → Planned map order words₂ words₂′ sheet sheet₂′ answer₂ → ¬ SaysFull answer₁ → ¬ SaysFull answer₂ →
+pub any-label-space : {given : Given} {words₁ words₁′ words₂ words₂′ sheet sheet₁′ sheet₂′ : List ℕ} {answer₁ answer₂ : Planning} →
+    Planned given words₁ words₁′ sheet sheet₁′ answer₁ → Planned given words₂ words₂′ sheet sheet₂′ answer₂ → ¬ SaysFull answer₁ → ¬ SaysFull answer₂ →
     (toldPlan answer₁ ≡ toldPlan answer₂) × (sheet₁′ ≡ sheet₂′)
-any-label-space {map} {order} {sheet = sheet} run₁ run₂ not-full₁ not-full₂ =
+any-label-space {given} {sheet = sheet} run₁ run₂ not-full₁ not-full₂ =
     let one = not-full-told run₁ not-full₁ in
     let two = not-full-told run₂ not-full₂ in
-    (run₁ .reply ∙ reply-any-fit map order _ _ (length sheet) one two ∙ sym (run₂ .reply), run₁ .bytes ∙ sheet-any-fit map order _ _ sheet one two ∙ sym (run₂ .bytes))
+    (run₁ .reply ∙ reply-any-fit given _ _ (length sheet) one two ∙ sym (run₂ .reply), run₁ .bytes ∙ sheet-any-fit given _ _ sheet one two ∙ sym (run₂ .bytes))
 
 -- PREVIEW OF A CLOSURE. Document 02, P6.
 
-module _ {map order : List ℕ} {road : ℕ} {words words′ sheet sheet′ : List ℕ} {answer : Planning} (run : Previewed map order road words words′ sheet sheet′ answer) where
+module _ {given : Given} {road : ℕ} {words words′ sheet sheet′ : List ℕ} {answer : Planning} (run : Previewed given road words words′ sheet sheet′ answer) where
   -- the refusals in order: 1 to 11, "24 unknown road .. after 11 in the preview", then 12 to 14 of the map so struck
-  pub preview-replies : RepliesBy (closureTests map order road ++ searchTests (tripFrom (struck map road) order) (labelsThatFit (length words)) (length sheet)) (toldPlan answer)
-  preview-replies = replies-by (closureTests map order road ++ searchTests (tripFrom (struck map road) order) (labelsThatFit (length words)) (length sheet)) _ refl tt (run .reply ∙ preview-listed map order road words sheet)
+  pub preview-replies : RepliesBy (closureTests given road ++ searchTests (tripFrom (struckGiven given road)) (labelsThatFit (length words)) (length sheet)) (toldPlan answer)
+  preview-replies = replies-by (closureTests given road ++ searchTests (tripFrom (struckGiven given road)) (labelsThatFit (length words)) (length sheet)) _ refl tt (run .reply ∙ preview-listed given road words sheet)
 
   -- a refusal leaves the sheet's bytes untouched, and one before the search every word of the label space
   pub preview-leaves : ¬ Plans answer → sheet′ ≡ sheet
@@ -413,25 +414,25 @@ module _ {map order : List ℕ} {road : ℕ} {words words′ sheet sheet′ : Li
 
   -- "The preview answers and writes exactly what planning would on a copy so struck": where the copy is struck, a run of the preview is a run of
   -- planning on it, so demands 1 to 3 hold of it as of planning there
-  module _ {map′ : List ℕ} {check : Check} (striking : Striking map road map′ check) where
-    pub preview-is-planning : toldCheck check .number ≡ 0 → Planned map′ order words words′ sheet sheet′ answer
+  module _ {map′ : List ℕ} {check : Check} (striking : Striking (given .map) road map′ check) where
+    pub preview-is-planning : toldCheck check .number ≡ 0 → Planned (onMap map′ given) words words′ sheet sheet′ answer
     preview-is-planning done = as-planned striking done run
 
     -- so every run of planning there with as much label space has the same reply and every byte of the sheet
     pub preview-as-planning : toldCheck check .number ≡ 0 → {words₂ words₂′ sheet₂′ : List ℕ} {planning : Planning} → length words₂ ≡ length words
-        → Planned map′ order words₂ words₂′ sheet sheet₂′ planning → (toldPlan answer ≡ toldPlan planning) × (sheet′ ≡ sheet₂′)
+        → Planned (onMap map′ given) words₂ words₂′ sheet sheet₂′ planning → (toldPlan answer ≡ toldPlan planning) × (sheet′ ≡ sheet₂′)
     preview-as-planning done room planned =
         let here = preview-is-planning done in (
-          here .reply ∙ ap (λ (n : ℕ). planReply map′ order (labelsThatFit n) (length sheet)) (sym room) ∙ sym (planned .reply),
-          here .bytes ∙ ap (λ (n : ℕ). planSheet map′ order (labelsThatFit n) sheet) (sym room) ∙ sym (planned .bytes),
+          here .reply ∙ ap (λ (n : ℕ). planReply (onMap map′ given) (labelsThatFit n) (length sheet)) (sym room) ∙ sym (planned .reply),
+          here .bytes ∙ ap (λ (n : ℕ). planSheet (onMap map′ given) (labelsThatFit n) sheet) (sym room) ∙ sym (planned .bytes),
         )
 
     -- and where striking is refused so is the preview, an order's faults before the road's
-    pub preview-refused : ¬ (toldCheck check .number ≡ 0) → toldPlan answer ≡ firstOf (runTests map order) (toldCheck check)
+    pub preview-refused : ¬ (toldCheck check .number ≡ 0) → toldPlan answer ≡ firstOf (runTests given) (toldCheck check)
     preview-refused refused = as-refused striking refused run
 
   -- beside planning on the lent map, with any label space and sheet: a closure makes no plan earlier, and opens no road
-  module _ {words₁ words₁′ sheet₁ sheet₁′ : List ℕ} {planning : Planning} (lent : Planned map order words₁ words₁′ sheet₁ sheet₁′ planning) where
+  module _ {words₁ words₁′ sheet₁ sheet₁′ : List ℕ} {planning : Planning} (lent : Planned given words₁ words₁′ sheet₁ sheet₁′ planning) where
     pub preview-no-earlier : Plans planning → Plans answer → toldPlan planning .arrival ≤ toldPlan answer .arrival
     preview-no-earlier planned previewed = no-earlier run previewed lent planned
 

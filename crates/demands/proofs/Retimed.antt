@@ -12,10 +12,10 @@ use Rattle.replies.specs.declared.Reply.{Reply}
 use Rattle.replies.specs.declared.Timing.{Timing}
 use Rattle.replies.specs.Told.{succeeded, toldTiming}
 use Rattle.mapcheck.proofs.Counts.{placed-none}
-use Rattle.driving.specs.Order.{orderOf}
 use Rattle.states.specs.declared.State.{State}
 use Rattle.moves.specs.declared.Move.{Move}
 use Rattle.moves.specs.Trip.{Trip, tripOf}
+use Rattle.moves.specs.Given.{Given, orderFrom, tripFrom}
 use Rattle.sheets.specs.declared.Heading.{Heading}
 use Rattle.sheets.specs.declared.Row.{Row}
 use Rattle.sheets.specs.Sheet.{headingOf, rowsOf, sheetNeeded, sheetAfter}
@@ -28,7 +28,6 @@ use Rattle.retiming.proofs.Retimes.{retimedHeading}
 use Rattle.retiming.proofs.Audited.{reached-state, true-rows, found-reached, written, retimed-reply, retimed-audits, never-reached, room, row-count, at-target}
 use Rattle.journeys.specs.Journeys.{startIn, atTarget, Leads, stay, go}
 use Rattle.journeys.specs.Plan.{rowsFrom}
-use Rattle.journeys.specs.Planning.{tripFrom}
 use Rattle.journeys.proofs.Rows.{rows-moves}
 use Rattle.demands.specs.Runs.{movesRead, HoldsJourney, headerAndRecords}
 use Rattle.demands.proofs.Decoded.{heading-read, count-read, rows-read, rest-stays}
@@ -62,36 +61,36 @@ walk-passed clocks trip k s (row ∷ rs) {l} {ys} e = by (one-row clocks trip k 
         }
 
 -- a walk that does not stray ends at target
-pub ends-at : (bytes order : List ℕ) (t : State) (rows : List Row) → stray (orderOf order .target) (reached t rows) ≡ none → atTarget (tripFrom bytes order) t ≡ true
+pub ends-at : (given : Given) (t : State) (rows : List Row) → stray (orderFrom given .target) (reached t rows) ≡ none → atTarget (tripFrom given) t ≡ true
 unfolding tripOf atTarget
-ends-at bytes order t rows straight = not-false (eqb (t .junction) (orderOf order .target)) (placed-none (t .junction) straight)
+ends-at given t rows straight = not-false (eqb (t .junction) (orderFrom given .target)) (placed-none (t .junction) straight)
 
-module _ {bytes order sheet out out′ : List ℕ} {answer : Timing} (retimed : Retimed bytes order sheet out out′ answer) (done : toldTiming answer .number ≡ 0) where
+module _ {given : Given} {sheet out out′ : List ℕ} {answer : Timing} (retimed : Retimed given sheet out out′ answer) (done : toldTiming answer .number ≡ 0) where
   abbrev trip : Trip
-  trip = tripFrom bytes order
+  trip = tripFrom given
 
-  pub number-0 : retimingReply bytes order sheet out .number ≡ 0
+  pub number-0 : retimingReply given sheet out .number ≡ 0
   number-0 = sym (ap (λ (r : Reply). r .number) (retimed .reply)) ∙ done
 
   -- where the moves lead, and the records with their true clocks
   abbrev pub state : State
-  state = reached-state bytes order sheet out number-0
+  state = reached-state given sheet out number-0
 
   abbrev rows : List Row
-  rows = true-rows bytes order sheet out number-0
+  rows = true-rows given sheet out number-0
 
   abbrev heading : Heading
   heading = retimedHeading (headingOf sheet) state
 
   is : out′ ≡ sheetAfter heading rows out
-  is = retimed .bytes ∙ written bytes order sheet out number-0
+  is = retimed .bytes ∙ written given sheet out number-0
 
   count : movesOn sheet ≡ length rows
-  count = sym (row-count bytes order sheet out number-0)
+  count = sym (row-count given sheet out number-0)
 
   passed : Passed trip (startIn trip) (movesRead sheet) state rows
   unfolding timing
-  passed = walk-passed false trip 1 (startIn trip) (rowsOf sheet 1 (movesOn sheet)) (found-reached bytes order sheet out number-0)
+  passed = walk-passed false trip 1 (startIn trip) (rowsOf sheet 1 (movesOn sheet)) (found-reached given sheet out number-0)
 
   same-count : movesOn out′ ≡ movesOn sheet
   same-count = count-read heading rows out count is ∙ sym count
@@ -107,17 +106,17 @@ module _ {bytes order sheet out out′ : List ℕ} {answer : Timing} (retimed : 
   rest-retimed = rest-stays heading rows out count is
 
   pub length-retimed : length out′ ≡ length out
-  length-retimed = ap length is ∙ length-after heading rows out (omega (arith, room bytes order sheet out number-0, count))
+  length-retimed = ap length is ∙ length-after heading rows out (omega (arith, room given sheet out number-0, count))
 
   pub told-retimed : toldTiming answer ≡ succeeded (movesOn sheet) (state .clock .0)
-  told-retimed = retimed .reply ∙ retimed-reply bytes order sheet out number-0
+  told-retimed = retimed .reply ∙ retimed-reply given sheet out number-0
 
   -- the other sheet's bytes hold the journey, with its true figures
   pub retimed-holds : HoldsJourney trip out′ state
   retimed-holds =
       record {
-        long = omega (arith, length-retimed, room bytes order sheet out number-0, same-count);
-        journey = rw same-moves (record { leads = passed .leads; ends = ends-at bytes order state rows (at-target bytes order sheet out number-0) });
+        long = omega (arith, length-retimed, room given sheet out number-0, same-count);
+        journey = rw same-moves (record { leads = passed .leads; ends = ends-at given state rows (at-target given sheet out number-0) });
         clocks = rows-read heading rows out count is ∙ passed .clocks ∙ ap (rowsFrom trip (startIn trip)) (sym same-moves);
         arrival = ap (λ (h : Heading). h .arrival) (heading-read heading rows out count is);
         spell = ap (λ (h : Heading). h .spell) (heading-read heading rows out count is);
@@ -126,7 +125,7 @@ module _ {bytes order sheet out out′ : List ℕ} {answer : Timing} (retimed : 
       }
 
   -- and its header and M records pass the audit
-  pub retimed-passes : auditReply bytes order (headerAndRecords out′) ≡ toldTiming answer
+  pub retimed-passes : auditReply given (headerAndRecords out′) ≡ toldTiming answer
   retimed-passes =
-      let same : headerAndRecords out′ ≡ take (sheetNeeded (movesOn sheet)) (retimedSheet bytes order sheet out) = rw (same-count, retimed .bytes) refl in
-      ap (auditReply bytes order) same ∙ retimed-audits bytes order sheet out number-0 ∙ sym told-retimed
+      let same : headerAndRecords out′ ≡ take (sheetNeeded (movesOn sheet)) (retimedSheet given sheet out) = rw (same-count, retimed .bytes) refl in
+      ap (auditReply given) same ∙ retimed-audits given sheet out number-0 ∙ sym told-retimed

@@ -22,11 +22,12 @@ use Rattle.theory.specs.Lists.{memb}
 use Rattle.states.specs.declared.State.{State}
 use Rattle.moves.specs.declared.Move.{Move}
 use Rattle.moves.specs.Trip.{Trip}
+use Rattle.moves.specs.Given.{Given, tripFrom}
 use Rattle.moves.proofs.Rising.{SoundTrip}
 use Rattle.journeys.specs.Journeys.{Journey}
 use Rattle.journeys.specs.Labels.{answerIn, labelCount}
 use Rattle.journeys.specs.Plan.{bytesNeeded}
-use Rattle.journeys.specs.Planning.{beforeSearch, tripFrom, searchTests, planned, planReply, searchReply}
+use Rattle.journeys.specs.Planning.{beforeSearch, searchTests, planned, planReply, searchReply}
 use Rattle.states.specs.LabelSpace.{labelsThatFit}
 use Rattle.journeys.proofs.Labels.{none-answered, no-journey}
 use Rattle.journeys.proofs.Planning.{accepted-sound, reply-accepted, full-exactly, no-road-exactly, reply-full, reply-no-road, reply-short, reply-planned}
@@ -37,34 +38,34 @@ abbrev early : ℕ → Bool
 early number = memb eqb number beforeSearch
 
 -- a reply that follows a search says that the map and the order are accepted
-pub accepted-by : {map order words words′ sheet sheet′ : List ℕ} {answer : Planning} → Planned map order words words′ sheet sheet′ answer →
-    early (toldPlan answer .number) ≡ false → AcceptedRun map order
+pub accepted-by : {given : Given} {words words′ sheet sheet′ : List ℕ} {answer : Planning} → Planned given words words′ sheet sheet′ answer →
+    early (toldPlan answer .number) ≡ false → AcceptedRun given
 unfolding memb planReply
-accepted-by {map} {order} {words} {words′} {sheet} run late =
-    let trip : Trip = tripFrom map order in
+accepted-by {given} {words} {words′} {sheet} run late =
+    let trip : Trip = tripFrom given in
     let late-tests : List Test = searchTests trip (labelsThatFit (length words)) (length sheet) in
-    let orders : List Test = orderTests (junctionCount map) order in
-    let told-late : early (firstOf (mapTests map ++ (orders ++ late-tests)) (planned trip) .number) ≡ false = rw (run .reply) at late in
-    let mapped : AcceptedMap map = none-told early (mapTests map) (orders ++ late-tests) (planned trip) tt told-late in
+    let orders : List Test = orderTests (junctionCount (given .map)) (given .order) in
+    let told-late : early (firstOf (mapTests (given .map) ++ (orders ++ late-tests)) (planned trip) .number) ≡ false = rw (run .reply) at late in
+    let mapped : AcceptedMap (given .map) = none-told early (mapTests (given .map)) (orders ++ late-tests) (planned trip) tt told-late in
     record {
       mapped = mapped;
-      ordered = none-told early orders late-tests (planned trip) tt (rw (none-fits (mapTests map) (orders ++ late-tests) (planned trip) mapped) at told-late);
+      ordered = none-told early orders late-tests (planned trip) tt (rw (none-fits (mapTests (given .map)) (orders ++ late-tests) (planned trip) mapped) at told-late);
     }
 
-module _ {map order words words′ sheet sheet′ : List ℕ} {answer : Planning}
-    (accepted : AcceptedRun map order) (run : Planned map order words words′ sheet sheet′ answer) where
+module _ {given : Given} {words words′ sheet sheet′ : List ℕ} {answer : Planning}
+    (accepted : AcceptedRun given) (run : Planned given words words′ sheet sheet′ answer) where
   abbrev trip : Trip
-  trip = tripFrom map order
+  trip = tripFrom given
 
   abbrev fit : ℕ
   fit = labelsThatFit (length words)
 
   sound : SoundTrip trip
-  sound = accepted-sound map order (accepted .mapped) (accepted .ordered)
+  sound = accepted-sound given (accepted .mapped) (accepted .ordered)
 
   -- what is told is what the search tells
   pub told : toldPlan answer ≡ searchReply trip fit (length sheet)
-  told = run .reply ∙ reply-accepted map order fit (length sheet) (accepted .mapped) (accepted .ordered)
+  told = run .reply ∙ reply-accepted given fit (length sheet) (accepted .mapped) (accepted .ordered)
 
   number-told : toldPlan answer .number ≡ searchReply trip fit (length sheet) .number
   number-told = ap (λ (r : Reply). r .number) told

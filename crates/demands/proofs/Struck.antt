@@ -23,12 +23,12 @@ use Rattle.states.specs.declared.State.{State}
 use Rattle.states.proofs.Compared.{covers-clock}
 use Rattle.moves.specs.declared.Move.{Move}
 use Rattle.moves.specs.Trip.{Trip}
+use Rattle.moves.specs.Given.{Given, onMap, tripFrom}
 use Rattle.moves.specs.RunTests.{runTests}
 use Rattle.journeys.specs.Journeys.{Journey}
-use Rattle.journeys.specs.Planning.{tripFrom}
 use Rattle.journeys.proofs.Struck.{struck-journey}
 use Rattle.planner.specs.Planned.{Planned}
-use Rattle.planner.specs.Preview.{closureTests, previewReply, Previewed}
+use Rattle.planner.specs.Preview.{struckGiven, closureTests, previewReply, Previewed}
 use Rattle.planner.proofs.Previewing.{struck-from, struck-run, preview-plans}
 use Rattle.demands.specs.LinkBytes.{InWord}
 use Rattle.demands.specs.Runs.{AcceptedRun, Plans, SaysNoRoad, movesRead}
@@ -79,70 +79,73 @@ module _ {map map′ : List ℕ} {road : ℕ} {answer : Check} (run : Striking m
   pub still-passes : AcceptedMap map′
   still-passes = rw is-struck (struck-passes map was-accepted road (known .above) (known .below))
 
-  -- a run of the preview is a run of planning on the map that striking left
-  pub as-planned : {order words words′ sheet sheet′ : List ℕ} {answer : Planning} → Previewed map order road words words′ sheet sheet′ answer
-      → Planned map′ order words words′ sheet sheet′ answer
-  as-planned {order} {words} {words′} {sheet} {sheet′} {answer} previewed =
-      subst (λ (m : List ℕ). Planned m order words words′ sheet sheet′ answer) (sym is-struck) (preview-plans map order road words sheet was-accepted road-inside previewed)
+-- A run of the preview is a run of planning on the map that striking left.
+pub as-planned : {given : Given} {map′ : List ℕ} {road : ℕ} {words words′ sheet sheet′ : List ℕ} {answer : Check} {told : Planning}
+    → Striking (given .map) road map′ answer → toldCheck answer .number ≡ 0 → Previewed given road words words′ sheet sheet′ told
+    → Planned (onMap map′ given) words words′ sheet sheet′ told
+as-planned {given} {words = words} {words′ = words′} {sheet = sheet} {sheet′ = sheet′} {told = told} run done previewed =
+    subst (λ (m : List ℕ). Planned (onMap m given) words words′ sheet sheet′ told) (sym (is-struck run done))
+    (preview-plans given _ words sheet (was-accepted run done) (road-inside run done) previewed)
 
 -- Where striking is refused the preview is refused likewise, an order's faults before the road's.
-pub as-refused : {map map′ order : List ℕ} {road : ℕ} {words words′ sheet sheet′ : List ℕ} {answer : Check} {told : Planning} → Striking map road map′ answer
-    → ¬ (toldCheck answer .number ≡ 0) → Previewed map order road words words′ sheet sheet′ told → toldPlan told ≡ firstOf (runTests map order) (toldCheck answer)
+pub as-refused : {given : Given} {map′ : List ℕ} {road : ℕ} {words words′ sheet sheet′ : List ℕ} {answer : Check} {told : Planning}
+    → Striking (given .map) road map′ answer → ¬ (toldCheck answer .number ≡ 0) → Previewed given road words words′ sheet sheet′ told
+    → toldPlan told ≡ firstOf (runTests given) (toldCheck answer)
 unfolding previewReply strikingReply firstOf
-as-refused {map} {map′} {order} {road} {answer = answer} run refused previewed =
+as-refused {given} {map′} {road} {answer = answer} run refused previewed =
     previewed .reply
-    ∙ first-append (runTests map order) ((24 at unknownRoad map road) ∷ []) _
-    ∙ first-same (runTests map order)
+    ∙ first-append (runTests given) ((24 at unknownRoad (given .map) road) ∷ []) _
+    ∙ first-same (runTests given)
     (λ none.
-    let struck-reply = run .reply ∙ none-fits (mapTests map) ((24 at unknownRoad map road) ∷ []) (succeeded 0 0) (none-before (mapTests map) (orderTests (junctionCount map) order) none) in
-    by _ (outside 1 (roadCount map) road) refl struck-reply)
+    let struck-reply = run .reply ∙ none-fits (mapTests (given .map)) ((24 at unknownRoad (given .map) road) ∷ []) (succeeded 0 0) (none-before (mapTests (given .map)) (orderTests (junctionCount (given .map)) (given .order)) none) in
+    by _ (outside 1 (roadCount (given .map)) road) refl struck-reply)
   where
-    by : (success : Reply) (out : Bool) → outside 1 (roadCount map) road ≡ out → toldCheck answer ≡ firstOf ((24 at unknownRoad map road) ∷ []) (succeeded 0 0)
-        → firstOf ((24 at unknownRoad map road) ∷ []) success ≡ toldCheck answer
+    by : (success : Reply) (out : Bool) → outside 1 (roadCount (given .map)) road ≡ out → toldCheck answer ≡ firstOf ((24 at unknownRoad (given .map) road) ∷ []) (succeeded 0 0)
+        → firstOf ((24 at unknownRoad (given .map) road) ∷ []) success ≡ toldCheck answer
     by success true out told = rw out (sym (rw out at told))
     by success false out told = absurd (refused (ap (λ (r : Reply). r .number) (rw out at told)))
 
 -- A preview that plans.
-module _ {map order : List ℕ} {road : ℕ} {words words′ sheet sheet′ : List ℕ} {answer : Planning} (run : Previewed map order road words words′ sheet sheet′ answer) (plans : Plans answer) where
-  none-closed : NoneFits (closureTests map order road)
+module _ {given : Given} {road : ℕ} {words words′ sheet sheet′ : List ℕ} {answer : Planning} (run : Previewed given road words words′ sheet sheet′ answer) (plans : Plans answer) where
+  none-closed : NoneFits (closureTests given road)
   unfolding previewReply
-  none-closed = none-fitted (closureTests map order road) _ tt (sym (ap (λ (r : Reply). r .number) (run .reply)) ∙ plans)
+  none-closed = none-fitted (closureTests given road) _ tt (sym (ap (λ (r : Reply). r .number) (run .reply)) ∙ plans)
 
-  none-run : NoneFits (runTests map order)
-  none-run = none-before (runTests map order) ((24 at unknownRoad map road) ∷ []) none-closed
+  none-run : NoneFits (runTests given)
+  none-run = none-before (runTests given) ((24 at unknownRoad (given .map) road) ∷ []) none-closed
 
-  inside : outside 1 (roadCount map) road ≡ false
-  inside = placed-none road (none-behind (runTests map order) ((24 at unknownRoad map road) ∷ []) none-closed .0)
+  inside : outside 1 (roadCount (given .map)) road ≡ false
+  inside = placed-none road (none-behind (runTests given) ((24 at unknownRoad (given .map) road) ∷ []) none-closed .0)
 
-  lent-accepted : AcceptedRun map order
+  lent-accepted : AcceptedRun given
   lent-accepted =
       record {
-        mapped = none-before (mapTests map) (orderTests (junctionCount map) order) none-run;
-        ordered = none-behind (mapTests map) (orderTests (junctionCount map) order) none-run;
+        mapped = none-before (mapTests (given .map)) (orderTests (junctionCount (given .map)) (given .order)) none-run;
+        ordered = none-behind (mapTests (given .map)) (orderTests (junctionCount (given .map)) (given .order)) none-run;
       }
 
-  struck-accepted : AcceptedRun (struck map road) order
+  struck-accepted : AcceptedRun (struckGiven given road)
   struck-accepted =
-      let none = struck-run map order road none-run inside in
+      let none = struck-run given road none-run inside in
       record {
-        mapped = none-before (mapTests (struck map road)) (orderTests (junctionCount (struck map road)) order) none;
-        ordered = none-behind (mapTests (struck map road)) (orderTests (junctionCount (struck map road)) order) none;
+        mapped = none-before (mapTests (struck (given .map) road)) (orderTests (junctionCount (struck (given .map) road)) (given .order)) none;
+        ordered = none-behind (mapTests (struck (given .map) road)) (orderTests (junctionCount (struck (given .map) road)) (given .order)) none;
       }
 
-  wrote-struck : Wrote (struck map road) order words sheet sheet′ answer
-  wrote-struck = wrote struck-accepted (preview-plans map order road words sheet (lent-accepted .mapped) inside run) plans
+  wrote-struck : Wrote (struckGiven given road) words sheet sheet′ answer
+  wrote-struck = wrote struck-accepted (preview-plans given road words sheet (lent-accepted .mapped) inside run) plans
 
   -- its journey without the drives of the road is one on the lent map
-  unstruck-journey : (ms : List Move) × (t : State) × Journey (tripFrom map order) ms t × (t .clock .0 ≤ toldPlan answer .arrival)
+  unstruck-journey : (ms : List Move) × (t : State) × Journey (tripFrom given) ms t × (t .clock .0 ≤ toldPlan answer .arrival)
   unstruck-journey =
       let held = holds-journey wrote-struck .journey in
       let found =
-      struck-journey (tripFrom map order) road
-      (subst (λ (t : Trip). Journey t (movesRead sheet′) (wrote-struck .state)) (sym (struck-from map order road none-run inside refl)) held) in
+      struck-journey (tripFrom given) road
+      (subst (λ (t : Trip). Journey t (movesRead sheet′) (wrote-struck .state)) (sym (struck-from given road none-run inside refl)) held) in
       (found .0, found .1, found .2, omega (arith, covers-clock _ _ (found .3), ap (λ (r : Reply). r .arrival) (wrote-struck .told)))
 
   -- planning on the lent map
-  module _ {words₁ words₁′ sheet₁ sheet₁′ : List ℕ} {lent : Planning} (lent-run : Planned map order words₁ words₁′ sheet₁ sheet₁′ lent) where
+  module _ {words₁ words₁′ sheet₁ sheet₁′ : List ℕ} {lent : Planning} (lent-run : Planned given words₁ words₁′ sheet₁ sheet₁′ lent) where
     pub no-earlier : Plans lent → toldPlan lent .arrival ≤ toldPlan answer .arrival
     no-earlier lent-plans =
         omega (arith, none-earlier (wrote lent-accepted lent-run lent-plans) (unstruck-journey .2), unstruck-journey .3)

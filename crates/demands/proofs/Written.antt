@@ -12,6 +12,7 @@ use Rattle.replies.specs.Told.{succeeded, toldPlan}
 use Rattle.states.specs.declared.State.{State}
 use Rattle.moves.specs.declared.Move.{Move}
 use Rattle.moves.specs.Trip.{Trip}
+use Rattle.moves.specs.Given.{Given, tripFrom}
 use Rattle.moves.proofs.Rising.{SoundTrip}
 use Rattle.sheets.specs.declared.Heading.{Heading}
 use Rattle.sheets.specs.Sheet.{headingOf, rowsOf, sheetNeeded, sheetAfter, tornSheet}
@@ -22,7 +23,6 @@ use Rattle.journeys.specs.Journeys.{startIn, Journey}
 use Rattle.states.specs.States.{ranksNoHigher}
 use Rattle.journeys.specs.Labels.{answerIn, labelCount}
 use Rattle.journeys.specs.Plan.{planMoves, bytesNeeded, rowsFrom, planRows, headingAt, plannedSheet}
-use Rattle.journeys.specs.Planning.{tripFrom}
 use Rattle.states.specs.LabelSpace.{labelsThatFit}
 use Rattle.journeys.proofs.Journeys.{leads-one}
 use Rattle.journeys.proofs.Labels.{answer-lowest, answer-earliest}
@@ -35,24 +35,24 @@ use Rattle.demands.proofs.Said.{told}
 use Rattle.demands.proofs.Decoded.{heading-read, count-read, rows-read, rest-stays}
 
 -- the answer's state, the reply and the sheet of a run that plans
-pub record Wrote (bytes order words sheet sheet′ : List ℕ) (answer : Planning) : Type 0 where
-  pub sound : SoundTrip (tripFrom bytes order)
+pub record Wrote (given : Given) (words sheet sheet′ : List ℕ) (answer : Planning) : Type 0 where
+  pub sound : SoundTrip (tripFrom given)
   pub state : State
-  pub answered : answerIn (tripFrom bytes order) ≡ some state
-  pub room : labelCount (tripFrom bytes order) ≤ labelsThatFit (length words)
-  pub long : bytesNeeded (tripFrom bytes order) ≤ length sheet
-  pub told : toldPlan answer ≡ succeeded (labelCount (tripFrom bytes order)) (state .clock .0)
-  pub written : sheet′ ≡ sheetAfter (headingAt (tripFrom bytes order) state) (planRows (tripFrom bytes order)) sheet
+  pub answered : answerIn (tripFrom given) ≡ some state
+  pub room : labelCount (tripFrom given) ≤ labelsThatFit (length words)
+  pub long : bytesNeeded (tripFrom given) ≤ length sheet
+  pub told : toldPlan answer ≡ succeeded (labelCount (tripFrom given)) (state .clock .0)
+  pub written : sheet′ ≡ sheetAfter (headingAt (tripFrom given) state) (planRows (tripFrom given)) sheet
 
-pub wrote : {bytes order words words′ sheet sheet′ : List ℕ} {answer : Planning} → AcceptedRun bytes order → Planned bytes order words words′ sheet sheet′ answer → Plans answer →
-    Wrote bytes order words sheet sheet′ answer
-wrote {bytes} {order} {words} {words′} {sheet} accepted run plans =
-    let trip : Trip = tripFrom bytes order in
+pub wrote : {given : Given} {words words′ sheet sheet′ : List ℕ} {answer : Planning} → AcceptedRun given → Planned given words words′ sheet sheet′ answer → Plans answer →
+    Wrote given words sheet sheet′ answer
+wrote {given} {words} {words′} {sheet} accepted run plans =
+    let trip : Trip = tripFrom given in
     let fit : ℕ = labelsThatFit (length words) in
     let is = told accepted run in
     let facts = planned-facts trip fit (length sheet) (sym (ap (λ (r : Reply). r .number) is) ∙ plans) in
     record {
-      sound = accepted-sound bytes order (accepted .mapped) (accepted .ordered);
+      sound = accepted-sound given (accepted .mapped) (accepted .ordered);
       state = facts .answer;
       answered = facts .answered;
       room = facts .room;
@@ -60,13 +60,13 @@ wrote {bytes} {order} {words} {words′} {sheet} accepted run plans =
       told = is ∙ facts .told;
       written =
           run .bytes
-          ∙ sheet-planned bytes order fit sheet (sym (ap (λ (r : Reply). r .number) (run .reply)) ∙ plans)
+          ∙ sheet-planned given fit sheet (sym (ap (λ (r : Reply). r .number) (run .reply)) ∙ plans)
           ∙ ap (λ (o : Option State). plannedSheet trip o sheet) (facts .answered);
     }
 
-module _ {bytes order words sheet sheet′ : List ℕ} {answer : Planning} (w : Wrote bytes order words sheet sheet′ answer) where
+module _ {given : Given} {words sheet sheet′ : List ℕ} {answer : Planning} (w : Wrote given words sheet sheet′ answer) where
   abbrev trip : Trip
-  trip = tripFrom bytes order
+  trip = tripFrom given
 
   abbrev heading : Heading
   heading = headingAt trip (w .state)

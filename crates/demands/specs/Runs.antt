@@ -14,6 +14,7 @@ use Rattle.driving.specs.Order.{orderTests}
 use Rattle.states.specs.declared.State.{State}
 use Rattle.moves.specs.declared.Move.{Move}
 use Rattle.moves.specs.Trip.{Trip}
+use Rattle.moves.specs.Given.{Given}
 use Rattle.sheets.specs.Sheet.{headingOf, rowsOf, sheetNeeded}
 use Rattle.retiming.specs.Walk.{moveOf}
 use Rattle.retiming.specs.Retiming.{movesOn, Retimed}
@@ -21,9 +22,9 @@ use Rattle.journeys.specs.Journeys.{startIn, Journey}
 use Rattle.journeys.specs.Plan.{rowsFrom}
 
 -- a map is accepted when none of refusals 1 to 8 fits it, an order when none of 9 to 11 fits it with its map
-pub record AcceptedRun (bytes order : List ℕ) : Type 0 where
-  pub mapped : AcceptedMap bytes
-  pub ordered : NoneFits (orderTests (junctionCount bytes) order)
+pub record AcceptedRun (given : Given) : Type 0 where
+  pub mapped : AcceptedMap (given .map)
+  pub ordered : NoneFits (orderTests (junctionCount (given .map)) (given .order))
 
 -- a run plans when its reply's number is 0
 abbrev pub Plans : Planning → Type 0
@@ -55,6 +56,6 @@ abbrev pub headerAndRecords : List ℕ → List ℕ
 headerAndRecords sheet = take (sheetNeeded (movesOn sheet)) sheet
 
 -- a sheet's moves are timed afresh by retiming its header and its M records, with this map and order, into any sheet at least as long
-pub record TimedAfresh (bytes order sheet out out′ : List ℕ) (answer : Timing) : Type 0 where
+pub record TimedAfresh (given : Given) (sheet out out′ : List ℕ) (answer : Timing) : Type 0 where
   pub long : length (headerAndRecords sheet) ≤ length out
-  pub retimed : Retimed bytes order (headerAndRecords sheet) out out′ answer
+  pub retimed : Retimed given (headerAndRecords sheet) out out′ answer

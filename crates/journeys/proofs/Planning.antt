@@ -1,5 +1,5 @@
 -- The reply of planning: which refusal fits when, and that accepted bytes make a sound run. Assumes nothing.
-use mathlib.Core.Path.{_≡_, refl, ap, _∙_}
+use mathlib.Core.Path.{_≡_, refl, ap}
 use mathlib.Core.Bool.{Bool, true, false}
 use mathlib.Core.List.{List, [], _∷_, _++_}
 use mathlib.Core.Logic.{_⊎_, ⊎-elim, _↔_}
@@ -13,20 +13,22 @@ use Rattle.booleans.proofs.Tests.{cases}
 use Rattle.replies.specs.declared.Reply.{Reply}
 use Rattle.replies.specs.Told.{succeeded, refusedAt}
 use Rattle.replies.specs.First.{Test, _at_, refusedOr, firstOf, NoneFits}
-use Rattle.replies.proofs.First.{none-fits}
+use Rattle.replies.proofs.First.{none-fits, none-of-both}
 use Rattle.roadmap.specs.Format.{junctionCount}
 use Rattle.mapcheck.specs.MapCheck.{mapTests, AcceptedMap}
-use Rattle.driving.specs.Order.{orderOf, orderTests}
+use Rattle.driving.specs.Order.{orderTests}
 use Rattle.driving.proofs.Accepted.{order-accepted}
 use Rattle.states.specs.declared.State.{State}
 use Rattle.moves.specs.declared.Move.{Move}
 use Rattle.moves.specs.Trip.{Trip, noneBanned}
+use Rattle.moves.specs.Given.{Given, orderFrom, tripFrom}
+use Rattle.moves.specs.RunTests.{runTests}
 use Rattle.moves.proofs.Rising.{SoundTrip, sound-trip}
 use Rattle.sheets.specs.Sheet.{shortSheet}
 use Rattle.journeys.specs.Journeys.{Journey}
 use Rattle.journeys.specs.Labels.{answerIn, labelCount}
 use Rattle.journeys.specs.Plan.{planMoves, moveCount, bytesNeeded, plannedSheet}
-use Rattle.journeys.specs.Planning.{full, noRoad, searchTests, planned, tripFrom, searchReply, planReply, planSheetWhen, planSheet}
+use Rattle.journeys.specs.Planning.{full, noRoad, searchTests, planned, searchReply, planReply, planSheetWhen, planSheet}
 use Rattle.states.specs.LabelSpace.{labelsThatFit}
 use Rattle.journeys.proofs.Labels.{none-answered}
 use Rattle.journeys.proofs.Plan.{plan-journey, plan-short}
@@ -34,16 +36,15 @@ use Rattle.journeys.proofs.Plan.{plan-journey, plan-short}
 -- Bytes.
 
 -- an accepted map and order make a sound run
-pub accepted-sound : (map order : List ℕ) → AcceptedMap map → NoneFits (orderTests (junctionCount map) order) → SoundTrip (tripFrom map order)
-accepted-sound map order mapped ordered = sound-trip map noneBanned (orderOf order) mapped (order-accepted (junctionCount map) order ordered)
+pub accepted-sound : (given : Given) → AcceptedMap (given .map) → NoneFits (orderTests (junctionCount (given .map)) (given .order)) → SoundTrip (tripFrom given)
+accepted-sound given mapped ordered = sound-trip (given .map) noneBanned (orderFrom given) mapped (order-accepted (junctionCount (given .map)) (given .order) ordered)
 
-module _ (map order : List ℕ) (fit sheet : ℕ) where
+module _ (given : Given) (fit sheet : ℕ) where
   -- of both accepted, what the search says
-  pub reply-accepted : AcceptedMap map → NoneFits (orderTests (junctionCount map) order) → planReply map order fit sheet ≡ searchReply (tripFrom map order) fit sheet
+  pub reply-accepted : AcceptedMap (given .map) → NoneFits (orderTests (junctionCount (given .map)) (given .order)) → planReply given fit sheet ≡ searchReply (tripFrom given) fit sheet
   unfolding planReply searchReply
   reply-accepted mapped ordered =
-      none-fits (mapTests map) (orderTests (junctionCount map) order ++ searchTests (tripFrom map order) fit sheet) (planned (tripFrom map order)) mapped
-      ∙ none-fits (orderTests (junctionCount map) order) (searchTests (tripFrom map order) fit sheet) (planned (tripFrom map order)) ordered
+      none-fits (runTests given) (searchTests (tripFrom given) fit sheet) (planned (tripFrom given)) (none-of-both (mapTests (given .map)) (orderTests (junctionCount (given .map)) (given .order)) mapped ordered)
 
 -- the two lists differ in one test, of which only the place may differ: where neither says its number, they say the same
 same-but-one : (before rest : List Test) (k : ℕ) (p q : Option ℕ) (success : Reply)
@@ -69,13 +70,13 @@ same-but-one (t ∷ ts) rest k p q success f g = go (t .place) (same-but-one ts 
     go (some place) same f g = refl
 
 -- runs that differ only in label space: where neither is full the replies are equal
-pub reply-any-fit : (map order : List ℕ) (fit other sheet : ℕ)
-    → ¬ (planReply map order fit sheet .number ≡ 12) → ¬ (planReply map order other sheet .number ≡ 12)
-    → planReply map order fit sheet ≡ planReply map order other sheet
+pub reply-any-fit : (given : Given) (fit other sheet : ℕ)
+    → ¬ (planReply given fit sheet .number ≡ 12) → ¬ (planReply given other sheet .number ≡ 12)
+    → planReply given fit sheet ≡ planReply given other sheet
 unfolding planReply
-reply-any-fit map order fit other sheet f g =
-    let trip = tripFrom map order in
-    same-but-one (mapTests map ++ orderTests (junctionCount map) order) ((13 at noRoad trip) ∷ (14 at shortSheet (moveCount trip) sheet) ∷ []) 12 (full trip fit) (full trip other) (planned trip) f g
+reply-any-fit given fit other sheet f g =
+    let trip = tripFrom given in
+    same-but-one (runTests given) ((13 at noRoad trip) ∷ (14 at shortSheet (moveCount trip) sheet) ∷ []) 12 (full trip fit) (full trip other) (planned trip) f g
 
 -- The four answers of a search.
 module _ (trip : Trip) (fit sheet : ℕ) where
@@ -175,24 +176,24 @@ module _ (trip : Trip) (fit sheet : ℕ) where
 pub plan-few : (trip : Trip) → SoundTrip trip → (words : ℕ) → labelCount trip ≤ labelsThatFit words → {a : State} → answerIn trip ≡ some a → moveCount trip ≤ 999999
 plan-few trip sound words room e = omega (arith, room, plan-short trip sound e)
 
-module _ (map order : List ℕ) (fit : ℕ) (before : List ℕ) where
+module _ (given : Given) (fit : ℕ) (before : List ℕ) where
   abbrev told-number : ℕ
-  told-number = planReply map order fit (length before) .number
+  told-number = planReply given fit (length before) .number
 
   -- a plan is written whole
-  pub sheet-planned : told-number ≡ 0 → planSheet map order fit before ≡ plannedSheet (tripFrom map order) (answerIn (tripFrom map order)) before
+  pub sheet-planned : told-number ≡ 0 → planSheet given fit before ≡ plannedSheet (tripFrom given) (answerIn (tripFrom given)) before
   unfolding planSheet
-  sheet-planned e = ap (λ (n : ℕ). planSheetWhen (eqb n 0) (tripFrom map order) before) e
+  sheet-planned e = ap (λ (n : ℕ). planSheetWhen (eqb n 0) (tripFrom given) before) e
 
   -- a refusal leaves the sheet's bytes
-  pub sheet-refused : ¬ (told-number ≡ 0) → planSheet map order fit before ≡ before
+  pub sheet-refused : ¬ (told-number ≡ 0) → planSheet given fit before ≡ before
   unfolding planSheet
-  sheet-refused refused = ap (λ (b : Bool). planSheetWhen b (tripFrom map order) before) (ne-eqb _ _ refused)
+  sheet-refused refused = ap (λ (b : Bool). planSheetWhen b (tripFrom given) before) (ne-eqb _ _ refused)
 
 -- runs that differ only in label space: where neither is full the sheets are equal
-pub sheet-any-fit : (map order : List ℕ) (fit other : ℕ) (before : List ℕ)
-    → ¬ (planReply map order fit (length before) .number ≡ 12) → ¬ (planReply map order other (length before) .number ≡ 12)
-    → planSheet map order fit before ≡ planSheet map order other before
+pub sheet-any-fit : (given : Given) (fit other : ℕ) (before : List ℕ)
+    → ¬ (planReply given fit (length before) .number ≡ 12) → ¬ (planReply given other (length before) .number ≡ 12)
+    → planSheet given fit before ≡ planSheet given other before
 unfolding planSheet
-sheet-any-fit map order fit other before f g =
-    ap (λ (r : Reply). planSheetWhen (eqb (r .number) 0) (tripFrom map order) before) (reply-any-fit map order fit other (length before) f g)
+sheet-any-fit given fit other before f g =
+    ap (λ (r : Reply). planSheetWhen (eqb (r .number) 0) (tripFrom given) before) (reply-any-fit given fit other (length before) f g)

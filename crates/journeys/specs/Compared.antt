@@ -9,6 +9,7 @@ use Rattle.driving.specs.Order.{orderWord, orderOf}
 use Rattle.driving.specs.Hours.{wheelFigures}
 use Rattle.driving.specs.Compared.{EasesRules}
 use Rattle.moves.specs.Trip.{roadTime}
+use Rattle.moves.specs.Given.{Given}
 
 -- two runs share the junctions and the roads' numbers and ends: J and R are equal, and each road number has the same from and to
 pub record SharedRoads (b a : List ℕ) : Type 0 where
@@ -35,8 +36,8 @@ pub record EasierOrder (b a : List ℕ) : Type 0 where
   pub rules : EasesRules (orderOf b .rules) (orderOf a .rules)
 
 -- nothing is worse in B
-pub record EasierRun (mapB orderB mapA orderA : List ℕ) : Type 0 where
-  pub roads : SharedRoads mapB mapA
-  pub trip : SharedTrip orderB orderA
-  pub map : EasierMap mapB mapA
-  pub order : EasierOrder orderB orderA
+pub record EasierRun (b a : Given) : Type 0 where
+  pub roads : SharedRoads (b .map) (a .map)
+  pub trip : SharedTrip (b .order) (a .order)
+  pub map : EasierMap (b .map) (a .map)
+  pub order : EasierOrder (b .order) (a .order)

@@ -8,11 +8,10 @@ use lib.ListN.{length}
 use Rattle.replies.specs.declared.Reply.{Reply}
 use Rattle.replies.specs.Told.{succeeded}
 use Rattle.replies.specs.First.{Test, _at_, placed, firstOf}
-use Rattle.roadmap.specs.Format.{junctionCount}
-use Rattle.mapcheck.specs.MapCheck.{mapTests}
-use Rattle.driving.specs.Order.{orderOf, orderTests}
 use Rattle.states.specs.declared.State.{State}
-use Rattle.moves.specs.Trip.{Trip, noneBanned, tripOf}
+use Rattle.moves.specs.Trip.{Trip}
+use Rattle.moves.specs.Given.{Given, tripFrom}
+use Rattle.moves.specs.RunTests.{runTests}
 use Rattle.sheets.specs.Sheet.{shortSheet}
 use Rattle.journeys.specs.Labels.{answerIn, labelCount}
 use Rattle.journeys.specs.Plan.{moveCount, plannedSheet}
@@ -45,29 +44,24 @@ arrivalOf (some a) = a .clock .0
 abbrev pub planned : Trip → Reply
 planned trip = succeeded (labelCount trip) (arrivalOf (answerIn trip))
 
-abbrev pub tripFrom : List ℕ → List ℕ → Trip
-tripFrom map order = tripOf map noneBanned (orderOf order)
-
 -- what planning says of an accepted map and order
 unfoldable pub searchReply : Trip → ℕ → ℕ → Reply
 unfolding firstOf
 searchReply trip fit sheet = firstOf (searchTests trip fit sheet) (planned trip)
 
 -- planning checks 1 to 14 in order
-abbrev pub planTests : List ℕ → List ℕ → ℕ → ℕ → List Test
-planTests map order fit sheet =
-    mapTests map ++ (orderTests (junctionCount map) order ++ searchTests (tripFrom map order) fit sheet)
+abbrev pub planTests : Given → ℕ → ℕ → List Test
+planTests given fit sheet = runTests given ++ searchTests (tripFrom given) fit sheet
 
-unfoldable pub planReply : List ℕ → List ℕ → ℕ → ℕ → Reply
+unfoldable pub planReply : Given → ℕ → ℕ → Reply
 unfolding firstOf
-planReply map order fit sheet = firstOf (planTests map order fit sheet) (planned (tripFrom map order))
+planReply given fit sheet = firstOf (planTests given fit sheet) (planned (tripFrom given))
 
 -- the sheet's bytes afterwards: the plan where planning succeeds, and else as they were
 abbrev pub planSheetWhen : Bool → Trip → List ℕ → List ℕ
 planSheetWhen true trip before = plannedSheet trip (answerIn trip) before
 planSheetWhen false trip before = before
 
-unfoldable pub planSheet : List ℕ → List ℕ → ℕ → List ℕ → List ℕ
+unfoldable pub planSheet : Given → ℕ → List ℕ → List ℕ
 unfolding planReply
-planSheet map order fit before =
-    planSheetWhen (eqb (planReply map order fit (length before) .number) 0) (tripFrom map order) before
+planSheet given fit before = planSheetWhen (eqb (planReply given fit (length before) .number) 0) (tripFrom given) before

@@ -18,6 +18,7 @@ use Rattle.mapcheck.specs.Chain.{brokenChainAt, among, chainFrom}
 use Rattle.driving.specs.Order.{firstBroken, badRules, badTrip}
 use Rattle.states.specs.declared.State.{State}
 use Rattle.moves.specs.Trip.{Trip, tripOf}
+use Rattle.moves.specs.Given.{Given, givenOf, tripFrom}
 use Rattle.moves.specs.Moves.{move, after}
 use Rattle.states.specs.States.{figuresOf, legal, sameState, covers, ranksNoHigher, dominatesState}
 use Rattle.theory.specs.Lists.{every}
@@ -26,7 +27,7 @@ use Rattle.sheets.specs.declared.Row.{Row}
 use Rattle.sheets.specs.Sheet.{wordBytes, headingBytes, rowBytes, rowsBytes, sheetAfter}
 use Rattle.journeys.specs.Labels.{answerIn, labelsIn}
 use Rattle.journeys.specs.Plan.{planMoves, planRows}
-use Rattle.journeys.specs.Planning.{planReply, planSheet, tripFrom}
+use Rattle.journeys.specs.Planning.{planReply, planSheet}
 
 -- map T: Hub 1, Lay 2 (car park), End 3; roads 1 from 1 to 2, 2 from 2 to 3, 3 from 1 to 3
 abbrev pub mapT : List ℕ
@@ -40,8 +41,12 @@ mapT =
 abbrev pub orderT : ℕ → List ℕ
 orderT latest = spelled (1 ∷ 3 ∷ 0 ∷ latest ∷ 0 ∷ 0 ∷ 16200 ∷ 2700 ∷ 32400 ∷ 39600 ∷ 0 ∷ 0 ∷ 201600 ∷ 162000 ∷ 0 ∷ [])
 
+-- a run on T by this order
+abbrev pub givenT : List ℕ → Given
+givenT order = givenOf mapT order
+
 abbrev pub tripT : Trip
-tripT = tripFrom mapT (orderT 100000)
+tripT = tripFrom (givenT (orderT 100000))
 
 -- the same with Europe's parts
 abbrev pub splitOrderT : ℕ → List ℕ
@@ -123,10 +128,10 @@ unfoldable pub right : Case → Bool
 unfolding planReply planSheet sheetAfter headingBytes rowsBytes rowBytes wordBytes wordAt format junctionCount roadCount nameBytes junctionWord roadWord oversize outside lowest badJunctionAt badRoadAt brokenChainAt among chainFrom badLetterAt firstBroken badRules badTrip tripOf nearest roadSeconds planRows planMoves labelsIn answerIn after legal sameState covers ranksNoHigher noneAbove sameEach lexicographic
 right (takes metres speed seconds) = eqb (roadSeconds metres speed) seconds
 right (answers figures) = hasFigures figures (answerIn tripT)
-right (lists order rows) = sameRows (planRows (tripFrom mapT order)) rows
-right (replies order fit sheet reply) = sameReply (planReply mapT order fit sheet) reply
-right (labelled order states) = sameStates (labelsIn (tripFrom mapT order)) states
-right (writes order fit words) = sameEach (planSheet mapT order fit blankSheet) (spelled words)
+right (lists order rows) = sameRows (planRows (tripFrom (givenT order))) rows
+right (replies order fit sheet reply) = sameReply (planReply (givenT order) fit sheet) reply
+right (labelled order states) = sameStates (labelsIn (tripFrom (givenT order))) states
+right (writes order fit words) = sameEach (planSheet (givenT order) fit blankSheet) (spelled words)
 right (drives spell is) = sameBool (legal (tripT .order) (after tripT (atLay 0 spell spell) (move 1 2))) is
 right (dominating b a is) = sameBool (dominatesState b a) is
 

@@ -1,5 +1,6 @@
 pub mod Trip
 pub mod Bans
+pub mod Given
 pub mod Struck
 pub mod Moves
 pub mod Runs

@@ -12,6 +12,7 @@ ghost use Rattle.moves.specs.Trip.{roadTime, noneBanned};
 ghost use Rattle.moves.specs.Bans.{listedIn};
 ghost use Rattle.moves.specs.Moves.{move, driven, paused, judged, stepped, leaves, mayPause};
 ghost use Rattle.moves.specs.Runs.{Accepted, tripIn, endWhen, stretchIn, InRange, RangeIn};
+ghost use Rattle.moves.specs.Given.{givenOf};
 ghost use Rattle.moves.specs.Opened.{OpenedSays};
 use driving::Order;
 use driving::Rules;
@@ -201,7 +202,7 @@ pub enum Opened {
 
 // Refusals 1 to 11.
 pub fn open_run(map: &[u8], order: &[u8]) -> Opened
-    ensures { λ r. ⌜ OpenedSays (now (map .entry)) (now (order .entry)) r ⌝ }
+    ensures { λ r. ⌜ OpenedSays (givenOf (now (map .entry)) (now (order .entry))) r ⌝ }
 {
     let map_check = mapcheck::check_map(map);
     if let Check::Refused(why) = map_check {

@@ -13,9 +13,10 @@ use Rattle.replies.specs.Told.{toldRefusal, toldPlan}
 use Rattle.replies.specs.First.{NoneFits, Refuses}
 use Rattle.replies.proofs.First.{none-fits, refusal-number, told-passes}
 use Rattle.moves.specs.Trip.{Trip}
+use Rattle.moves.specs.Given.{Given, tripFrom}
 use Rattle.moves.specs.RunTests.{runTests}
 use Rattle.theory.specs.Lists.{memb}
-use Rattle.journeys.specs.Planning.{beforeSearch, tripFrom, searchTests, planned, searchReply, planReply, planSheetWhen, planSheet}
+use Rattle.journeys.specs.Planning.{beforeSearch, searchTests, planned, searchReply, planReply, planSheetWhen, planSheet}
 use Rattle.states.specs.LabelSpace.{labelsThatFit}
 use Rattle.journeys.proofs.Planning.{sheet-refused}
 use Rattle.search.specs.declared.Outcome.{Outcome}
@@ -31,18 +32,18 @@ ends-with {trip} {fit′ = fit′} {ws = ws} {outcome = outcome} same e says =
 pub concluded-with : {trip : Trip} {fit fit′ : ℕ} {before after : List ℕ} {answer : Planning} → fit ≡ fit′ → Concluded trip fit before after answer → Concluded trip fit′ before after answer
 concluded-with {trip} {before = before} {after = after} {answer = answer} e concluded = subst (λ (k : ℕ). Concluded trip k before after answer) e concluded
 
-module _ (map order words sheet : List ℕ) where
+module _ (given : Given) (words sheet : List ℕ) where
   abbrev fit : ℕ
   fit = labelsThatFit (length words)
 
   -- a refusal before the search: nothing has changed
-  pub run-refused : (why : Refusal) → Refuses (runTests map order) why → Planned map order words words sheet sheet (Planning.Refused why)
+  pub run-refused : (why : Refusal) → Refuses (runTests given) why → Planned given words words sheet sheet (Planning.Refused why)
   unfolding planReply
   run-refused why refuses =
-      let told : planReply map order fit (length sheet) ≡ toldRefusal why = refuses (searchTests (tripFrom map order) fit (length sheet)) (planned (tripFrom map order)) in
+      let told : planReply given fit (length sheet) ≡ toldRefusal why = refuses (searchTests (tripFrom given) fit (length sheet)) (planned (tripFrom given)) in
       record {
         reply = sym told;
-        bytes = sym (sheet-refused map order fit sheet (λ e. omega (arith, refusal-number why, ap (λ (r : Reply). r .number) told)));
+        bytes = sym (sheet-refused given fit sheet (λ e. omega (arith, refusal-number why, ap (λ (r : Reply). r .number) told)));
         kept = λ listed. refl;
       }
 
@@ -54,16 +55,16 @@ module _ (map order words sheet : List ℕ) where
       (told-passes (λ (k : ℕ). not (memb eqb k beforeSearch)) (searchTests trip fit (length sheet)) (planned trip) tt tt)
 
   -- an opened run: what the search concludes
-  pub run-planned : {trip : Trip} → trip ≡ tripFrom map order → NoneFits (runTests map order) → {words′ sheet′ : List ℕ} {answer : Planning}
-      → Concluded trip fit sheet sheet′ answer → Planned map order words words′ sheet sheet′ answer
+  pub run-planned : {trip : Trip} → trip ≡ tripFrom given → NoneFits (runTests given) → {words′ sheet′ : List ℕ} {answer : Planning}
+      → Concluded trip fit sheet sheet′ answer → Planned given words words′ sheet sheet′ answer
   unfolding planReply searchReply planSheet
   run-planned same none {words′} {sheet′} {answer} concluded =
-      let told : toldPlan answer ≡ searchReply (tripFrom map order) fit (length sheet) = concluded .reply ∙ ap (λ (t : Trip). searchReply t fit (length sheet)) same in
-      let reply : toldPlan answer ≡ planReply map order fit (length sheet) = told ∙ sym (none-fits (runTests map order) (searchTests (tripFrom map order) fit (length sheet)) (planned (tripFrom map order)) none) in
+      let told : toldPlan answer ≡ searchReply (tripFrom given) fit (length sheet) = concluded .reply ∙ ap (λ (t : Trip). searchReply t fit (length sheet)) same in
+      let reply : toldPlan answer ≡ planReply given fit (length sheet) = told ∙ sym (none-fits (runTests given) (searchTests (tripFrom given) fit (length sheet)) (planned (tripFrom given)) none) in
       record {
         reply = reply;
         bytes = concluded .bytes
             ∙ ap (λ (t : Trip). planSheetWhen (eqb (toldPlan answer .number) 0) t sheet) same
-            ∙ ap (λ (r : Reply). planSheetWhen (eqb (r .number) 0) (tripFrom map order) sheet) reply;
-        kept = λ listed. absurd (late-number (tripFrom map order) (rw told at listed));
+            ∙ ap (λ (r : Reply). planSheetWhen (eqb (r .number) 0) (tripFrom given) sheet) reply;
+        kept = λ listed. absurd (late-number (tripFrom given) (rw told at listed));
       }

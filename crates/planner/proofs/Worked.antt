@@ -26,7 +26,7 @@ use Rattle.sheets.specs.Sheet.{wordBytes, headingBytes, rowBytes, rowsBytes, sh
 use Rattle.journeys.specs.Labels.{answerIn, labelsIn}
 use Rattle.journeys.specs.Plan.{planMoves, planRows}
 use Rattle.journeys.specs.Planning.{planReply, planSheet}
-use Rattle.journeys.specs.Starred.{mapT, orderT, sheetT, blankSheet}
+use Rattle.journeys.specs.Starred.{orderT, givenT, sheetT, blankSheet}
 use Rattle.planner.specs.Preview.{previewReply, previewSheet}
 
 -- the preview of T by this order with this road struck and so many labels that fit: its reply, and the words of a sheet of T's length
@@ -40,8 +40,8 @@ record Closure : Type 0 where
 works : Closure → Bool
 unfolding previewReply previewSheet struck putAt firstOf planReply planSheet sheetAfter headingBytes rowsBytes rowBytes wordBytes wordAt format junctionCount roadCount nameBytes junctionWord roadWord oversize outside lowest badJunctionAt badRoadAt brokenChainAt among chainFrom badLetterAt firstBroken badRules badTrip tripOf nearest roadSeconds planRows planMoves labelsIn answerIn after legal sameState covers ranksNoHigher noneAbove sameEach lexicographic
 works c =
-    sameReply (previewReply mapT (c .order) (c .road) (c .fit) (length blankSheet)) (c .reply)
-    && sameEach (previewSheet mapT (c .order) (c .road) (c .fit) blankSheet) (spelled (c .words))
+    sameReply (previewReply (givenT (c .order)) (c .road) (c .fit) (length blankSheet)) (c .reply)
+    && sameEach (previewSheet (givenT (c .order)) (c .road) (c .fit) blankSheet) (spelled (c .words))
 
 -- nothing written
 abbrev blank : List ℕ

@@ -4,6 +4,7 @@ ghost use Prim.Native.Nat.{_≤_};
 ghost use lib.ListN.{length};
 ghost use Rattle.roadmap.specs.Format.{roadCount};
 ghost use Rattle.moves.specs.Bans.{closedIn, listedIn, AgreeOn};
+ghost use Rattle.moves.specs.Given.{givenOf};
 ghost use Rattle.moves.specs.Runs.{Accepted, tripIn};
 ghost use Rattle.sheets.specs.Sheet.{sheetNeeded};
 ghost use Rattle.journeys.specs.Plan.{moveCount};
@@ -109,7 +110,7 @@ fn plan_run(
 
 // Planning: the first-arriving legal plan, written to the sheet. `words` is label space.
 pub fn plan(map: &[u8], order: &[u8], words: &mut [u32], sheet: &mut [u8]) -> Planning
-    ensures { λ r. ⌜ Planned (now (map .entry)) (now (order .entry)) (now (words .entry)) (now (words .exit)) (now (sheet .entry)) (now (sheet .exit)) r ⌝ }
+    ensures { λ r. ⌜ Planned (givenOf (now (map .entry)) (now (order .entry))) (now (words .entry)) (now (words .exit)) (now (sheet .entry)) (now (sheet .exit)) r ⌝ }
 {
     let opened = moves::open_run(map, order);
     match opened {
@@ -120,7 +121,7 @@ pub fn plan(map: &[u8], order: &[u8], words: &mut [u32], sheet: &mut [u8]) -> Pl
 
 // The preview of a closure: what planning would answer and write with this road struck. The map is only read.
 pub fn preview(map: &[u8], order: &[u8], road: u32, words: &mut [u32], sheet: &mut [u8]) -> Planning
-    ensures { λ r. ⌜ Previewed (now (map .entry)) (now (order .entry)) road (now (words .entry)) (now (words .exit)) (now (sheet .entry)) (now (sheet .exit)) r ⌝ }
+    ensures { λ r. ⌜ Previewed (givenOf (now (map .entry)) (now (order .entry))) road (now (words .entry)) (now (words .exit)) (now (sheet .entry)) (now (sheet .exit)) r ⌝ }
 {
     let opened = moves::open_run(map, order);
     match opened {

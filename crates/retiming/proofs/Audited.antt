@@ -14,9 +14,9 @@ use Rattle.replies.specs.Told.{succeeded}
 use Rattle.replies.proofs.First.{Numbered, none-fitted, none-of-both, none-at-all, none-before, none-behind, none-under}
 use Rattle.mapcheck.proofs.Counts.{placed-none}
 use Rattle.driving.specs.declared.Order.{Order}
-use Rattle.driving.specs.Order.{orderOf}
 use Rattle.states.specs.declared.State.{State}
-use Rattle.moves.specs.Trip.{Trip, noneBanned, tripOf}
+use Rattle.moves.specs.Trip.{Trip}
+use Rattle.moves.specs.Given.{Given, orderFrom, tripFrom}
 use Rattle.moves.specs.RunTests.{runTests}
 use Rattle.sheets.specs.declared.Heading.{Heading}
 use Rattle.sheets.specs.declared.Row.{Row}
@@ -90,46 +90,46 @@ move-numbered clocks trip sheet = by (timing clocks trip sheet) refl
     by (refused number move) e = lt-ltb 0 number (omega (arith, walk-number clocks _ 1 _ _ e))
     by (reached s rows) e = refl
 
-module _ (map order sheet : List ℕ) where
-  pub retiming-numbered : (out : List ℕ) → Numbered (retimingTests map order sheet out (timing false (tripOf map noneBanned (orderOf order)) sheet))
-  retiming-numbered out = rw (move-numbered false (tripOf map noneBanned (orderOf order)) sheet) tt
+module _ (given : Given) (sheet : List ℕ) where
+  pub retiming-numbered : (out : List ℕ) → Numbered (retimingTests given sheet out (timing false (tripFrom given) sheet))
+  retiming-numbered out = rw (move-numbered false (tripFrom given) sheet) tt
 
-  pub audit-numbered : Numbered (auditTests map order sheet (timing true (tripOf map noneBanned (orderOf order)) sheet))
-  audit-numbered = rw (move-numbered true (tripOf map noneBanned (orderOf order)) sheet) tt
+  pub audit-numbered : Numbered (auditTests given sheet (timing true (tripFrom given) sheet))
+  audit-numbered = rw (move-numbered true (tripFrom given) sheet) tt
 
 -- what a retiming that succeeded found, from its reply's number alone
-module _ (map order sheet out : List ℕ) (number-0 : retimingReply map order sheet out .number ≡ 0) where
+module _ (given : Given) (sheet out : List ℕ) (number-0 : retimingReply given sheet out .number ≡ 0) where
   abbrev found : Walk
-  found = timing false (tripOf map noneBanned (orderOf order)) sheet
+  found = timing false (tripFrom given) sheet
 
-  none-fitting : NoneFits (retimingTests map order sheet out found)
-  none-fitting = none-fitted (retimingTests map order sheet out found) _ (retiming-numbered map order sheet out) number-0
+  none-fitting : NoneFits (retimingTests given sheet out found)
+  none-fitting = none-fitted (retimingTests given sheet out found) _ (retiming-numbered given sheet out) number-0
 
   -- 14, and what comes before it once the run is opened
   abbrev short-test : List Test
   short-test = (14 at shortSheet (movesOn sheet) (length out)) ∷ []
 
   abbrev opened-tests : List Test
-  opened-tests = sheetTests (orderOf order) sheet found ++ short-test
+  opened-tests = sheetTests (orderFrom given) sheet found ++ short-test
 
-  run-tests : NoneFits (runTests map order)
-  run-tests = none-before (runTests map order) opened-tests none-fitting
+  run-tests : NoneFits (runTests given)
+  run-tests = none-before (runTests given) opened-tests none-fitting
 
   late-tests : NoneFits opened-tests
-  late-tests = none-behind (runTests map order) opened-tests none-fitting
+  late-tests = none-behind (runTests given) opened-tests none-fitting
 
-  sheet-tests : NoneFits (sheetTests (orderOf order) sheet found)
-  sheet-tests = none-before (sheetTests (orderOf order) sheet found) short-test late-tests
+  sheet-tests : NoneFits (sheetTests (orderFrom given) sheet found)
+  sheet-tests = none-before (sheetTests (orderFrom given) sheet found) short-test late-tests
 
   -- the other sheet is long enough
   pub room : sheetNeeded (movesOn sheet) ≤ length out
-  room = ltb-false _ _ (placed-none (sheetNeeded (movesOn sheet)) (none-behind (sheetTests (orderOf order) sheet found) short-test late-tests .0))
+  room = ltb-false _ _ (placed-none (sheetNeeded (movesOn sheet)) (none-behind (sheetTests (orderFrom given) sheet found) short-test late-tests .0))
 
   ended : Met found
-  ended = met (orderOf order) sheet found sheet-tests
+  ended = met (orderFrom given) sheet found sheet-tests
 
   whole : Whole sheet
-  whole = none-whole sheet (none-under 15 (sheetTests (orderOf order) sheet found) sheet-tests)
+  whole = none-whole sheet (none-under 15 (sheetTests (orderFrom given) sheet found) sheet-tests)
 
   -- the state that the moves reach, and the records with true clocks
   pub reached-state : State
@@ -149,12 +149,12 @@ module _ (map order sheet out : List ℕ) (number-0 : retimingReply map order sh
   abbrev heading : Heading
   heading = retimedHeading (headingOf sheet) reached-state
 
-  pub written : retimedSheet map order sheet out ≡ sheetAfter heading true-rows out
+  pub written : retimedSheet given sheet out ≡ sheetAfter heading true-rows out
   written = rw (number-0, found-reached) refl
 
   -- the header and the M records of what was written
   abbrev kept : List ℕ
-  kept = take (sheetNeeded (movesOn sheet)) (retimedSheet map order sheet out)
+  kept = take (sheetNeeded (movesOn sheet)) (retimedSheet given sheet out)
 
   kept-is : kept ≡ take (sheetNeeded (length true-rows)) (sheetAfter heading true-rows out)
   kept-is = rw (row-count, written) refl
@@ -168,10 +168,10 @@ module _ (map order sheet out : List ℕ) (number-0 : retimingReply map order sh
       ∙ ap (λ (l : List ℕ). rowsOf l 1 (length true-rows)) kept-is
       ∙ prefix-rows heading true-rows out
 
-  audited-walk : timing true (tripOf map noneBanned (orderOf order)) kept ≡ reached reached-state true-rows
+  audited-walk : timing true (tripFrom given) kept ≡ reached reached-state true-rows
   unfolding timing
   audited-walk =
-      ap (walk true (tripOf map noneBanned (orderOf order)) 1 _) rows-kept ∙ walk-again _ 1 _ (rowsOf sheet 1 (movesOn sheet)) found-reached
+      ap (walk true (tripFrom given) 1 _) rows-kept ∙ walk-again _ 1 _ (rowsOf sheet 1 (movesOn sheet)) found-reached
 
   figures-true : falseFigures (headingOf kept) reached-state ≡ false
   figures-true = ap (λ (h : Heading). falseFigures h reached-state) kept-heading ∙ own-figures (headingOf sheet) reached-state
@@ -179,19 +179,19 @@ module _ (map order sheet out : List ℕ) (number-0 : retimingReply map order sh
   kept-whole : tornSheet kept ≡ none
   kept-whole = ap tornSheet kept-is ∙ prefix-untorn heading true-rows out (sym row-count) (omega (arith, whole, row-count))
 
-  pub at-target : stray (orderOf order .target) (reached reached-state true-rows) ≡ none
-  at-target = none-under 19 (sheetTests (orderOf order) sheet (reached reached-state true-rows)) (rw found-reached at sheet-tests)
+  pub at-target : stray (orderFrom given .target) (reached reached-state true-rows) ≡ none
+  at-target = none-under 19 (sheetTests (orderFrom given) sheet (reached reached-state true-rows)) (rw found-reached at sheet-tests)
 
-  audit-tests : NoneFits (sheetTests (orderOf order) kept (reached reached-state true-rows) ++ ((18 at falseHeader (headingOf kept) (reached reached-state true-rows)) ∷ []))
+  audit-tests : NoneFits (sheetTests (orderFrom given) kept (reached reached-state true-rows) ++ ((18 at falseHeader (headingOf kept) (reached reached-state true-rows)) ∷ []))
   audit-tests = (kept-whole, (refl, (at-target, (rw figures-true refl, tt))))
 
   -- retiming that succeeds replies 0, M and the clock of the state reached
-  pub retimed-reply : retimingReply map order sheet out ≡ succeeded (movesOn sheet) (reached-state .clock .0)
-  retimed-reply = none-at-all (retimingTests map order sheet out found) _ none-fitting ∙ ap (λ (w : Walk). succeeded (movesOn sheet) (arrivalReached w)) found-reached
+  pub retimed-reply : retimingReply given sheet out ≡ succeeded (movesOn sheet) (reached-state .clock .0)
+  retimed-reply = none-at-all (retimingTests given sheet out found) _ none-fitting ∙ ap (λ (w : Walk). succeeded (movesOn sheet) (arrivalReached w)) found-reached
 
   -- and auditing the header and the M records of what it wrote replies the same
-  pub retimed-audits : auditReply map order kept ≡ succeeded (movesOn sheet) (reached-state .clock .0)
+  pub retimed-audits : auditReply given kept ≡ succeeded (movesOn sheet) (reached-state .clock .0)
   retimed-audits =
-      ap (λ (w : Walk). firstOf (auditTests map order kept w) (succeeded (movesOn kept) (arrivalReached w))) audited-walk
-      ∙ none-at-all (auditTests map order kept (reached reached-state true-rows)) _ (none-of-both (runTests map order) (sheetTests (orderOf order) kept (reached reached-state true-rows) ++ ((18 at falseHeader (headingOf kept) (reached reached-state true-rows)) ∷ [])) run-tests audit-tests)
+      ap (λ (w : Walk). firstOf (auditTests given kept w) (succeeded (movesOn kept) (arrivalReached w))) audited-walk
+      ∙ none-at-all (auditTests given kept (reached reached-state true-rows)) _ (none-of-both (runTests given) (sheetTests (orderFrom given) kept (reached reached-state true-rows) ++ ((18 at falseHeader (headingOf kept) (reached reached-state true-rows)) ∷ [])) run-tests audit-tests)
       ∙ ap (λ (h : Heading). succeeded (h .moves) (reached-state .clock .0)) kept-heading

@@ -12,8 +12,8 @@ use Rattle.replies.specs.declared.Timing.{Timing}
 use Rattle.replies.specs.First.{_at_, firstOf, NoneFits, Refuses}
 use Rattle.replies.specs.Told.{succeeded, toldRefusal, toldTiming}
 use Rattle.replies.proofs.First.{none-fits, stops-at, passed-over, refusal-number}
-use Rattle.driving.specs.Order.{orderOf}
-use Rattle.moves.specs.Trip.{Trip, noneBanned, tripOf}
+use Rattle.moves.specs.Trip.{Trip, tripOf}
+use Rattle.moves.specs.Given.{Given, tripFrom}
 use Rattle.moves.specs.RunTests.{runTests}
 use Rattle.states.specs.declared.State.{State}
 use Rattle.sheets.specs.declared.Heading.{Heading}
@@ -74,9 +74,9 @@ module _ (trip : Trip) (sheet before : List ℕ) where
               ∙ ap (λ (w : Walk). retimedTo (headingOf sheet) w before) (sym (reached-is timed s (ended .2)));
         }
 
--- and from the bytes of map and order
-module _ (map order sheet before : List ℕ) where
-  pub retimed-unopened : (why : Refusal) → Refuses (runTests map order) why → Retimed map order sheet before before (Timing.Refused why)
+-- and of what a run is given
+module _ (given : Given) (sheet before : List ℕ) where
+  pub retimed-unopened : (why : Refusal) → Refuses (runTests given) why → Retimed given sheet before before (Timing.Refused why)
   retimed-unopened why says =
       let told = says _ _ in
       record {
@@ -84,10 +84,10 @@ module _ (map order sheet before : List ℕ) where
         bytes = rw (told, ne-eqb (toldRefusal why .number) 0 (λ e. omega (arith, refusal-number why))) refl;
       }
 
-  pub retimed-opened : {trip : Trip} {after : List ℕ} {answer : Timing} → trip ≡ tripOf map noneBanned (orderOf order) → NoneFits (runTests map order) →
-      RetimedRun trip sheet before after answer → Retimed map order sheet before after answer
+  pub retimed-opened : {trip : Trip} {after : List ℕ} {answer : Timing} → trip ≡ tripFrom given → NoneFits (runTests given) →
+      RetimedRun trip sheet before after answer → Retimed given sheet before after answer
   unfolding tripOf
   retimed-opened {after = after} {answer = answer} is passed run =
       let opened = subst (λ (t : Trip). RetimedRun t sheet before after answer) is run in
-      let told : toldTiming answer ≡ retimingReply map order sheet before = opened .reply ∙ sym (none-fits (runTests map order) _ _ passed) in
+      let told : toldTiming answer ≡ retimingReply given sheet before = opened .reply ∙ sym (none-fits (runTests given) _ _ passed) in
       record { reply = told; bytes = opened .bytes ∙ rw told refl }

@@ -12,10 +12,10 @@ use Rattle.replies.specs.First.{Test, _at_, firstOf, placed}
 use Rattle.replies.specs.Told.{succeeded, toldTiming}
 use Rattle.booleans.specs.Pick.{pick}
 use Rattle.driving.specs.declared.Order.{Order}
-use Rattle.driving.specs.Order.{orderOf}
 use Rattle.states.specs.declared.State.{State}
-use Rattle.moves.specs.Trip.{Trip, noneBanned, tripOf}
+use Rattle.moves.specs.Trip.{Trip}
 use Rattle.states.specs.States.{startOf}
+use Rattle.moves.specs.Given.{Given, orderFrom, tripFrom}
 use Rattle.moves.specs.RunTests.{runTests}
 use Rattle.sheets.specs.declared.Heading.{Heading}
 use Rattle.sheets.specs.Sheet.{headingFor, headingOf, rowsOf, sheetAfter, shortSheet, tornSheet}
@@ -34,15 +34,15 @@ sheetTests order sheet timed =
     (15 at tornSheet sheet) ∷ moveTest timed ∷ (19 at stray (order .target) timed) ∷ []
 
 -- retiming: 1 to 11, 15, then 16 and 17 move by move, 19, 14
-abbrev pub retimingTests : List ℕ → List ℕ → List ℕ → List ℕ → Walk → List Test
-retimingTests map order sheet out timed =
-    runTests map order
-    ++ (sheetTests (orderOf order) sheet timed ++ ((14 at shortSheet (movesOn sheet) (length out)) ∷ []))
+abbrev pub retimingTests : Given → List ℕ → List ℕ → Walk → List Test
+retimingTests given sheet out timed =
+    runTests given
+    ++ (sheetTests (orderFrom given) sheet timed ++ ((14 at shortSheet (movesOn sheet) (length out)) ∷ []))
 
-abbrev pub retimingReply : List ℕ → List ℕ → List ℕ → List ℕ → Reply
-retimingReply map order sheet out =
-    firstOf (retimingTests map order sheet out (timing false (tripOf map noneBanned (orderOf order)) sheet))
-    (succeeded (movesOn sheet) (arrivalReached (timing false (tripOf map noneBanned (orderOf order)) sheet)))
+abbrev pub retimingReply : Given → List ℕ → List ℕ → Reply
+retimingReply given sheet out =
+    firstOf (retimingTests given sheet out (timing false (tripFrom given) sheet))
+    (succeeded (movesOn sheet) (arrivalReached (timing false (tripFrom given) sheet)))
 
 -- the same moves with true figures, N copied
 abbrev pub retimedTo : Heading → Walk → List ℕ → List ℕ
@@ -50,16 +50,16 @@ retimedTo heading (refused number move) out = out
 retimedTo heading (reached s rows) out = sheetAfter (headingFor (heading .moves) s (heading .labels)) rows out
 
 -- the other sheet afterwards: a refusal leaves it
-abbrev pub retimedSheet : List ℕ → List ℕ → List ℕ → List ℕ → List ℕ
-retimedSheet map order sheet out =
-    pick (eqb (retimingReply map order sheet out .number) 0)
-    (retimedTo (headingOf sheet) (timing false (tripOf map noneBanned (orderOf order)) sheet) out)
+abbrev pub retimedSheet : Given → List ℕ → List ℕ → List ℕ
+retimedSheet given sheet out =
+    pick (eqb (retimingReply given sheet out .number) 0)
+    (retimedTo (headingOf sheet) (timing false (tripFrom given) sheet) out)
     out
 
 -- what retiming owes: its answer, and every byte of the other sheet
-pub record Retimed (map order sheet before after : List ℕ) (answer : Timing) : Type 0 where
-  pub reply : toldTiming answer ≡ retimingReply map order sheet before
-  pub bytes : after ≡ retimedSheet map order sheet before
+pub record Retimed (given : Given) (sheet before after : List ℕ) (answer : Timing) : Type 0 where
+  pub reply : toldTiming answer ≡ retimingReply given sheet before
+  pub bytes : after ≡ retimedSheet given sheet before
 
 -- 18 false figure in the header: arrival, spell, shift or week; M + 1
 unfoldable pub falseFigures : Heading → State → Bool
@@ -73,12 +73,12 @@ falseHeader heading (refused number move) = none
 falseHeader heading (reached s rows) = placed (falseFigures heading s) (heading .moves + 1)
 
 -- audit: the same without 14, with 18 after 17 in each move and for the header last
-abbrev pub auditTests : List ℕ → List ℕ → List ℕ → Walk → List Test
-auditTests map order sheet timed =
-    runTests map order
-    ++ (sheetTests (orderOf order) sheet timed ++ ((18 at falseHeader (headingOf sheet) timed) ∷ []))
+abbrev pub auditTests : Given → List ℕ → Walk → List Test
+auditTests given sheet timed =
+    runTests given
+    ++ (sheetTests (orderFrom given) sheet timed ++ ((18 at falseHeader (headingOf sheet) timed) ∷ []))
 
-abbrev pub auditReply : List ℕ → List ℕ → List ℕ → Reply
-auditReply map order sheet =
-    firstOf (auditTests map order sheet (timing true (tripOf map noneBanned (orderOf order)) sheet))
-    (succeeded (movesOn sheet) (arrivalReached (timing true (tripOf map noneBanned (orderOf order)) sheet)))
+abbrev pub auditReply : Given → List ℕ → Reply
+auditReply given sheet =
+    firstOf (auditTests given sheet (timing true (tripFrom given) sheet))
+    (succeeded (movesOn sheet) (arrivalReached (timing true (tripFrom given) sheet)))

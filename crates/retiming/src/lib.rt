@@ -5,6 +5,7 @@ ghost use mathlib.Core.List.{[], _∷_};
 ghost use Prim.Native.Nat.{_+_, _≤_, _<_};
 ghost use lib.ListN.{length};
 ghost use Rattle.replies.specs.Told.{toldTiming};
+ghost use Rattle.moves.specs.Given.{givenOf};
 ghost use Rattle.moves.specs.Bans.{listedIn};
 ghost use Rattle.moves.specs.Runs.{Accepted, tripIn, RangeIn};
 ghost use Rattle.sheets.specs.Sheet.{sheetNeeded};
@@ -150,7 +151,7 @@ fn audit_run(map: &[u8], bans: &[u32], run: Run, sheet: &[u8]) -> Timing
 
 // Audit: whether a sheet's moves are legal and its figures true.
 pub fn audit(map: &[u8], order: &[u8], sheet: &[u8]) -> Timing
-    ensures { λ r. ⌜ toldTiming r ≡ auditReply (now (map .entry)) (now (order .entry)) (now (sheet .entry)) ⌝ }
+    ensures { λ r. ⌜ toldTiming r ≡ auditReply (givenOf (now (map .entry)) (now (order .entry))) (now (sheet .entry)) ⌝ }
 {
     let opened = moves::open_run(map, order);
     match opened {
@@ -218,7 +219,7 @@ fn retime_run(map: &[u8], bans: &[u32], run: Run, sheet: &[u8], out: &mut [u8]) 
 
 // Retiming: the moves of a sheet with their true figures, written to another sheet.
 pub fn retime(map: &[u8], order: &[u8], sheet: &[u8], out: &mut [u8]) -> Timing
-    ensures { λ r. ⌜ Retimed (now (map .entry)) (now (order .entry)) (now (sheet .entry)) (now (out .entry)) (now (out .exit)) r ⌝ }
+    ensures { λ r. ⌜ Retimed (givenOf (now (map .entry)) (now (order .entry))) (now (sheet .entry)) (now (out .entry)) (now (out .exit)) r ⌝ }
 {
     let opened = moves::open_run(map, order);
     match opened {

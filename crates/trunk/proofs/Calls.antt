@@ -22,6 +22,7 @@ use Rattle.mapedit.specs.Name.{nameReply, nameAt, namePart}
 use Rattle.mapedit.proofs.Named.{length-named}
 use Rattle.driving.specs.declared.Figures.{Figures}
 use Rattle.replay.specs.Replay.{Replayed}
+use Rattle.moves.specs.Given.{Given}
 use Rattle.retiming.specs.Retiming.{Retimed}
 use Rattle.trunk.specs.Written.{replyPut, partPut, rulesIn, figuresIn}
 use Rattle.trunk.specs.Calls.{JudgingCall, PlanningCall, RetimeCall, NameCall, EditingCall, ReplayCall, namePut, figuresLeft}
@@ -34,8 +35,8 @@ module _ {reply : List ℕ} (short : length reply < 3) where
   pub planning-short : (Owes : Planning → Type 0) (words sheet : List ℕ) → PlanningCall Owes words words sheet sheet reply reply
   planning-short Owes words sheet = record { short = λ _. (refl, refl, refl); told = λ room. absurd (omega arith) }
 
-  pub retime-short : (map order sheet out : List ℕ) → RetimeCall map order sheet out out reply reply
-  retime-short map order sheet out = record { short = λ _. (refl, refl); told = λ room. absurd (omega arith) }
+  pub retime-short : (given : Given) (sheet out : List ℕ) → RetimeCall given sheet out out reply reply
+  retime-short given sheet out = record { short = λ _. (refl, refl); told = λ room. absurd (omega arith) }
 
   pub name-short : (map : List ℕ) (junction : ℕ) (part : List ℕ) → NameCall map junction reply reply part part
   name-short map junction part =
@@ -70,8 +71,8 @@ module _ {reply reply′ : List ℕ} {told : Reply} (room : 3 ≤ length reply) 
   planning-told answer is owed =
       record { short = λ short. absurd (omega arith); told = λ _. (answer, owed, written ∙ ap (replyPut reply) is) }
 
-  pub retime-told : {map order sheet out out′ : List ℕ} {answer : Timing} → told ≡ toldTiming answer
-      → Retimed map order sheet out out′ answer → RetimeCall map order sheet out out′ reply reply′
+  pub retime-told : {given : Given} {sheet out out′ : List ℕ} {answer : Timing} → told ≡ toldTiming answer
+      → Retimed given sheet out out′ answer → RetimeCall given sheet out out′ reply reply′
   retime-told {answer = answer} is retimed =
       record { short = λ short. absurd (omega arith); told = λ _. (answer, retimed, written ∙ ap (replyPut reply) is) }
 

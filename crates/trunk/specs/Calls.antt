@@ -21,6 +21,7 @@ use Rattle.replay.specs.Replay.{Replayed}
 use Rattle.striking.specs.Striking.{Striking}
 use Rattle.mapedit.specs.Name.{nameReply, nameAt}
 use Rattle.mapedit.specs.Chaining.{ChainMaking}
+use Rattle.moves.specs.Given.{Given}
 use Rattle.retiming.specs.Retiming.{auditReply, Retimed}
 use Rattle.planner.specs.Planned.{Planned}
 use Rattle.planner.specs.Preview.{Previewed}
@@ -42,26 +43,26 @@ MapCheckCall map reply reply′ = JudgingCall (firstOf (mapTests map) (succeeded
 abbrev pub OrderCheckCall : List ℕ → ℕ → List ℕ → List ℕ → Type 0
 OrderCheckCall order junctions reply reply′ = JudgingCall (firstOf (orderTests junctions order) (succeeded 0 0)) reply reply′
 
-abbrev pub AuditCall : List ℕ → List ℕ → List ℕ → List ℕ → List ℕ → Type 0
-AuditCall map order sheet reply reply′ = JudgingCall (auditReply map order sheet) reply reply′
+abbrev pub AuditCall : Given → List ℕ → List ℕ → List ℕ → Type 0
+AuditCall given sheet reply reply′ = JudgingCall (auditReply given sheet) reply reply′
 
 -- a call that plans: its operation owes this of its answer
 pub record PlanningCall (Owes : Planning → Type 0) (words words′ sheet sheet′ reply reply′ : List ℕ) : Type 0 where
   pub short : length reply < 3 → (words′ ≡ words) × (sheet′ ≡ sheet) × (reply′ ≡ reply)
   pub told : 3 ≤ length reply → (answer : Planning) × Owes answer × (reply′ ≡ replyPut reply (toldPlan answer))
 
-abbrev pub PlanCall : List ℕ → List ℕ → List ℕ → List ℕ → List ℕ → List ℕ → List ℕ → List ℕ → Type 0
-PlanCall map order words words′ sheet sheet′ reply reply′ =
-    PlanningCall (Planned map order words words′ sheet sheet′) words words′ sheet sheet′ reply reply′
+abbrev pub PlanCall : Given → List ℕ → List ℕ → List ℕ → List ℕ → List ℕ → List ℕ → Type 0
+PlanCall given words words′ sheet sheet′ reply reply′ =
+    PlanningCall (Planned given words words′ sheet sheet′) words words′ sheet sheet′ reply reply′
 
-abbrev pub PreviewCall : List ℕ → List ℕ → ℕ → List ℕ → List ℕ → List ℕ → List ℕ → List ℕ → List ℕ → Type 0
-PreviewCall map order road words words′ sheet sheet′ reply reply′ =
-    PlanningCall (Previewed map order road words words′ sheet sheet′) words words′ sheet sheet′ reply reply′
+abbrev pub PreviewCall : Given → ℕ → List ℕ → List ℕ → List ℕ → List ℕ → List ℕ → List ℕ → Type 0
+PreviewCall given road words words′ sheet sheet′ reply reply′ =
+    PlanningCall (Previewed given road words words′ sheet sheet′) words words′ sheet sheet′ reply reply′
 
-pub record RetimeCall (map order sheet out out′ reply reply′ : List ℕ) : Type 0 where
+pub record RetimeCall (given : Given) (sheet out out′ reply reply′ : List ℕ) : Type 0 where
   pub short : length reply < 3 → (out′ ≡ out) × (reply′ ≡ reply)
   pub told : 3 ≤ length reply
-      → (answer : Timing) × Retimed map order sheet out out′ answer × (reply′ ≡ replyPut reply (toldTiming answer))
+      → (answer : Timing) × Retimed given sheet out out′ answer × (reply′ ≡ replyPut reply (toldTiming answer))
 
 -- the name's place in the map and its length, 0 and 0 when refused
 abbrev pub namePut : List ℕ → ℕ → List ℕ → List ℕ

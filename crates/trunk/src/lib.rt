@@ -7,6 +7,7 @@ ghost use lib.ListN.{length};
 ghost use Rattle.replies.specs.Told.{toldName};
 ghost use Rattle.mapedit.specs.Name.{nameReply};
 ghost use Rattle.trunk.specs.Written.{replyPut, rulesIn, figuresIn, markWord, figuresPut};
+ghost use Rattle.moves.specs.Given.{givenOf};
 ghost use Rattle.trunk.specs.Calls.{MapCheckCall, OrderCheckCall, PlanCall, PreviewCall, RetimeCall, AuditCall, NameCall, ChainsCall, StrikeCall, ReplayCall, libraryVersion, namePut, figuresLeft};
 use driving::Figures;
 use driving::Rules;
@@ -77,7 +78,7 @@ pub extern "C" fn trunk_plan(
     sheet: &mut [u8],
     reply: &mut [u64],
 )
-    ensures { λ _. ⌜ PlanCall (now (map .entry)) (now (order .entry)) (now (words .entry)) (now (words .exit)) (now (sheet .entry)) (now (sheet .exit)) (now (reply .entry)) (now (reply .exit)) ⌝ }
+    ensures { λ _. ⌜ PlanCall (givenOf (now (map .entry)) (now (order .entry))) (now (words .entry)) (now (words .exit)) (now (sheet .entry)) (now (sheet .exit)) (now (reply .entry)) (now (reply .exit)) ⌝ }
 {
     if reply.len() < REPLY_NUMBERS {
         return;
@@ -96,7 +97,7 @@ pub extern "C" fn trunk_preview(
     sheet: &mut [u8],
     reply: &mut [u64],
 )
-    ensures { λ _. ⌜ PreviewCall (now (map .entry)) (now (order .entry)) road (now (words .entry)) (now (words .exit)) (now (sheet .entry)) (now (sheet .exit)) (now (reply .entry)) (now (reply .exit)) ⌝ }
+    ensures { λ _. ⌜ PreviewCall (givenOf (now (map .entry)) (now (order .entry))) road (now (words .entry)) (now (words .exit)) (now (sheet .entry)) (now (sheet .exit)) (now (reply .entry)) (now (reply .exit)) ⌝ }
 {
     if reply.len() < REPLY_NUMBERS {
         return;
@@ -114,7 +115,7 @@ pub extern "C" fn trunk_retime(
     out: &mut [u8],
     reply: &mut [u64],
 )
-    ensures { λ _. ⌜ RetimeCall (now (map .entry)) (now (order .entry)) (now (sheet .entry)) (now (out .entry)) (now (out .exit)) (now (reply .entry)) (now (reply .exit)) ⌝ }
+    ensures { λ _. ⌜ RetimeCall (givenOf (now (map .entry)) (now (order .entry))) (now (sheet .entry)) (now (out .entry)) (now (out .exit)) (now (reply .entry)) (now (reply .exit)) ⌝ }
 {
     if reply.len() < REPLY_NUMBERS {
         return;
@@ -126,7 +127,7 @@ pub extern "C" fn trunk_retime(
 // Audit.
 #[no_mangle]
 pub extern "C" fn trunk_audit(map: &[u8], order: &[u8], sheet: &[u8], reply: &mut [u64])
-    ensures { λ _. ⌜ AuditCall (now (map .entry)) (now (order .entry)) (now (sheet .entry)) (now (reply .entry)) (now (reply .exit)) ⌝ }
+    ensures { λ _. ⌜ AuditCall (givenOf (now (map .entry)) (now (order .entry))) (now (sheet .entry)) (now (reply .entry)) (now (reply .exit)) ⌝ }
 {
     if reply.len() < REPLY_NUMBERS {
         return;

@@ -5,9 +5,10 @@ use Rattle.roadmap.specs.Format.{roadCount}
 use Rattle.mapcheck.specs.MapCheck.{outside}
 use Rattle.mapcheck.proofs.Counts.{within}
 use Rattle.theory.specs.Lists.{memb}
-use Rattle.striking.specs.Striking.{struck}
 use Rattle.moves.specs.declared.Opened.{Opened}
+use Rattle.moves.specs.Given.{givenOf}
 use Rattle.moves.specs.Opened.{OpenedSays}
+use Rattle.planner.specs.Preview.{struckGiven}
 use Rattle.planner.proofs.Opening.{run-planned}
 use Rattle.planner.proofs.Previewing.{struck-run, struck-from, preview-refused, preview-unknown, preview-planned}
 use Rattle.planner.proofs.preview.Statement.{statement}
@@ -17,11 +18,11 @@ use Rattle.planner.proofs.preview.Tie as tie
 ready : (c : tie.After-is-unknown) →
     let told = c .before .before .before in
     let a = told .before .before .before .before .before .before .before .args in
-    OpenedSays (a .map .now) (a .order .now) (Opened.Ready (told .opened2 .given .0 .0))
+    OpenedSays (givenOf (a .map .now) (a .order .now)) (Opened.Ready (told .opened2 .given .0 .0))
 ready c =
     let told = c .before .before .before in
     let a = told .before .before .before .before .before .before .before .args in
-    subst (OpenedSays (a .map .now) (a .order .now)) (told .opened2 .given .1) (told .before .before .open-run .ensures)
+    subst (OpenedSays (givenOf (a .map .now) (a .order .now))) (told .opened2 .given .1) (told .before .before .open-run .ensures)
 
 -- and what is judged of the road
 judged : (c : tie.After-is-unknown) →
@@ -32,7 +33,7 @@ judged c = rw (← (ready c .0 .accepted .sized .roads)) (sym (c .is-unknown .en
 returns : tie.Need-returns
 returns c =
     let a = c .before .before .before .before .before .before .before .before .before .before .before .args in
-    preview-unknown (a .map .now) (a .order .now) (a .road) (a .words .now) (a .sheet .now) (ready (c .before) .2) (judged (c .before) ∙ c .if1 .taken)
+    preview-unknown (givenOf (a .map .now) (a .order .now)) (a .road) (a .words .now) (a .sheet .now) (ready (c .before) .2) (judged (c .before) ∙ c .if1 .taken)
 
 plan-run-requires : tie.Need-plan-run-requires
 unfolding memb
@@ -51,7 +52,8 @@ plan-run-requires c κs =
 returns-2 : tie.Need-returns-2
 returns-2 c =
     let a = c .before .before .before .before .before .before .before .before .args in
-    preview-refused (a .map .now) (a .order .now) (a .road) (a .words .now) (a .sheet .now) _ (subst (OpenedSays (a .map .now) (a .order .now)) (c .before .opened .given .1) (c .before .before .before .open-run .ensures))
+    let given = givenOf (a .map .now) (a .order .now) in
+    preview-refused given (a .road) (a .words .now) (a .sheet .now) _ (subst (OpenedSays given) (c .before .opened .given .1) (c .before .before .before .open-run .ensures))
 
 returns-3 : tie.Need-returns-3
 unfolding memb
@@ -59,12 +61,13 @@ returns-3 c =
     let planned = c .before .before .before .before in
     let left = planned .before .before .before .before .before .before in
     let a = left .before .before .before .before .before .before .before .before .before .before .before .args in
+    let given = givenOf (a .map .now) (a .order .now) in
     let opened = ready (left .before) in
     let inside = judged (left .before) ∙ left .if1 .left in
-    preview-planned (a .map .now) (a .order .now) (a .road) (a .words .now) (a .sheet .now) (opened .0 .accepted .mapped) inside
-    (run-planned (struck (a .map .now) (a .road)) (a .order .now) (a .words .now) (a .sheet .now)
-    (struck-from (a .map .now) (a .order .now) (a .road) (opened .2) inside (opened .1))
-    (struck-run (a .map .now) (a .order .now) (a .road) (opened .2) inside)
+    preview-planned given (a .road) (a .words .now) (a .sheet .now) (opened .0 .accepted .mapped) inside
+    (run-planned (struckGiven given (a .road)) (a .words .now) (a .sheet .now)
+    (struck-from given (a .road) (opened .2) inside (opened .1))
+    (struck-run given (a .road) (opened .2) inside)
     (planned .plan-run .ensures))
 
 pub preview-spec : {M : Type 1} → statement M

@@ -4,7 +4,7 @@ use Rattle.trunk.proofs.trunk_retime.Statement.{statement}
 use Rattle.trunk.proofs.trunk_retime.Tie as tie
 
 returns : tie.Need-returns
-returns c = retime-short (c .if1 .taken) _ _ _ _
+returns c = retime-short (c .if1 .taken) _ _ _
 
 returns-2 : tie.Need-returns-2
 returns-2 c =
