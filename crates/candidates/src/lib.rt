@@ -1,4 +1,5 @@
-// The candidates of settled labels: what a cursor names, and which candidate is next.
+// The candidates of settled labels: what a cursor names, and which candidate is next. `closed` has one
+// byte a road, not 0 where the road is banned: it is there for the contracts, and no move asks for it yet.
 ghost use mathlib.Core.Path.{_≡_};
 ghost use mathlib.Core.Bool.{true, false};
 ghost use Prim.Native.Nat.{_+_, _*_, _≤_, _<_};
@@ -52,7 +53,7 @@ fn result_at(map: &[u8], closed: &[u8], run: Run, state: State, cursor: u32) -> 
 }
 
 // The same of a candidate, which knows its junction and its clock: that says how long the move takes,
-// so that the map is not read. `map` and `run` are there for the contract.
+// so that the map is not read. `map`, `closed` and `run` are there for the contract.
 pub fn result_by(
     map: &[u8],
     closed: &[u8],

@@ -148,7 +148,8 @@ fn judge(order: Order, state: State) -> Step
     }
 }
 
-// The drive of road r, any number.
+// The drive of road r, any number. `bans` lists the banned roads: it is there for the contract, and the
+// drive asks for nothing in it yet.
 pub fn drive(map: &[u8], bans: &[u32], run: Run, state: State, r: u32) -> Step
     requires { ⌜ Accepted (now map) run ⌝ }
     requires { ⌜ RangeIn (tripIn (now map) (listedIn (now bans)) run) state ⌝ }

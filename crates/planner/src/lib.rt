@@ -89,8 +89,8 @@ fn conclude(
     }
 }
 
-// Planning of an accepted map and order. The search asks the bytes which roads are banned, reading the plan
-// back the list; they say the same.
+// Planning of an accepted map and order. The search is lent one byte a road that says whether it is
+// banned, reading the plan back the list of the banned roads; they say the same.
 fn plan_run(
     map: &[u8],
     closed: &[u8],

@@ -1,4 +1,5 @@
-// Reading a plan back from settled labels: the moves that lead to them, how many, and their records.
+// Reading a plan back from settled labels: the moves that lead to them, how many, and their records. `bans`
+// lists the banned roads: it is there for the contracts, and no move asks for it yet.
 ghost use mathlib.Core.Path.{_≡_};
 ghost use mathlib.Core.Bool.{_&&_};
 ghost use mathlib.Core.Option.{some};
