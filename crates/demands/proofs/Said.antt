@@ -1,7 +1,7 @@
 -- What planning says of an accepted map and order. Assumes nothing.
 use mathlib.Core.Path.{_≡_, refl, sym, ap, _∙_}
 use mathlib.Core.Bool.{Bool, true, false}
-use mathlib.Core.List.{List, _++_}
+use mathlib.Core.List.{List}
 use mathlib.Core.Logic.{⊎-elim, _↔_}
 use mathlib.Core.Option.{Option, none, some}
 use Prim.Native.Nat.{ℕ, _≤_, _<_}
@@ -12,17 +12,18 @@ use lib.ListN.{length}
 use Rattle.booleans.proofs.Tests.{cases}
 use Rattle.replies.specs.declared.Reply.{Reply}
 use Rattle.replies.specs.declared.Planning.{Planning}
-use Rattle.replies.specs.First.{Test, firstOf}
+use Rattle.replies.specs.First.{Test, NoneFits}
 use Rattle.replies.specs.Told.{refusedAt, toldPlan}
-use Rattle.replies.proofs.First.{none-fits, none-told}
+use Rattle.replies.proofs.First.{none-told, none-before, none-behind}
 use Rattle.roadmap.specs.Format.{junctionCount}
-use Rattle.mapcheck.specs.MapCheck.{mapTests, AcceptedMap}
+use Rattle.mapcheck.specs.MapCheck.{mapTests}
 use Rattle.driving.specs.Order.{orderTests}
 use Rattle.theory.specs.Lists.{memb}
 use Rattle.states.specs.declared.State.{State}
 use Rattle.moves.specs.declared.Move.{Move}
 use Rattle.moves.specs.Trip.{Trip}
 use Rattle.moves.specs.Given.{Given, tripFrom}
+use Rattle.moves.specs.RunTests.{runTests}
 use Rattle.moves.proofs.Rising.{SoundTrip}
 use Rattle.journeys.specs.Journeys.{Journey}
 use Rattle.journeys.specs.Labels.{answerIn, labelCount}
@@ -37,6 +38,12 @@ use Rattle.demands.specs.Runs.{AcceptedRun, Plans, SaysFull, SaysNoRoad}
 abbrev early : ℕ → Bool
 early number = memb eqb number beforeSearch
 
+-- a run that none of its tests refuses is accepted
+pub run-accepted : {given : Given} → NoneFits (runTests given) → AcceptedRun given
+run-accepted {given} all =
+    let orders : List Test = orderTests (junctionCount (given .map)) (given .order) in
+    record { mapped = none-before (mapTests (given .map)) orders all; ordered = none-behind (mapTests (given .map)) orders all }
+
 -- a reply that follows a search says that the map and the order are accepted
 pub accepted-by : {given : Given} {words words′ sheet sheet′ : List ℕ} {answer : Planning} → Planned given words words′ sheet sheet′ answer →
     early (toldPlan answer .number) ≡ false → AcceptedRun given
@@ -44,13 +51,7 @@ unfolding memb planReply
 accepted-by {given} {words} {words′} {sheet} run late =
     let trip : Trip = tripFrom given in
     let late-tests : List Test = searchTests trip (labelsThatFit (length words)) (length sheet) in
-    let orders : List Test = orderTests (junctionCount (given .map)) (given .order) in
-    let told-late : early (firstOf (mapTests (given .map) ++ (orders ++ late-tests)) (planned trip) .number) ≡ false = rw (run .reply) at late in
-    let mapped : AcceptedMap (given .map) = none-told early (mapTests (given .map)) (orders ++ late-tests) (planned trip) tt told-late in
-    record {
-      mapped = mapped;
-      ordered = none-told early orders late-tests (planned trip) tt (rw (none-fits (mapTests (given .map)) (orders ++ late-tests) (planned trip) mapped) at told-late);
-    }
+    run-accepted (none-told early (runTests given) late-tests (planned trip) tt (rw (run .reply) at late))
 
 module _ {given : Given} {words words′ sheet sheet′ : List ℕ} {answer : Planning}
     (accepted : AcceptedRun given) (run : Planned given words words′ sheet sheet′ answer) where

@@ -33,7 +33,7 @@ use Rattle.planner.proofs.Previewing.{struck-from, struck-run, preview-plans}
 use Rattle.demands.specs.LinkBytes.{InWord}
 use Rattle.demands.specs.Runs.{AcceptedRun, Plans, SaysNoRoad, movesRead}
 use Rattle.demands.proofs.Chained.{apart}
-use Rattle.demands.proofs.Said.{no-road-said}
+use Rattle.demands.proofs.Said.{run-accepted, no-road-said}
 use Rattle.demands.proofs.Written.{Wrote, wrote, holds-journey, none-earlier}
 
 module _ {map map′ : List ℕ} {road : ℕ} {answer : Check} (run : Striking map road map′ answer) (done : toldCheck answer .number ≡ 0) where
@@ -118,19 +118,10 @@ module _ {given : Given} {road : ℕ} {words words′ sheet sheet′ : List ℕ}
   inside = placed-none road (none-behind (runTests given) ((24 at unknownRoad (given .map) road) ∷ []) none-closed .0)
 
   lent-accepted : AcceptedRun given
-  lent-accepted =
-      record {
-        mapped = none-before (mapTests (given .map)) (orderTests (junctionCount (given .map)) (given .order)) none-run;
-        ordered = none-behind (mapTests (given .map)) (orderTests (junctionCount (given .map)) (given .order)) none-run;
-      }
+  lent-accepted = run-accepted none-run
 
   struck-accepted : AcceptedRun (struckGiven given road)
-  struck-accepted =
-      let none = struck-run given road none-run inside in
-      record {
-        mapped = none-before (mapTests (struck (given .map) road)) (orderTests (junctionCount (struck (given .map) road)) (given .order)) none;
-        ordered = none-behind (mapTests (struck (given .map) road)) (orderTests (junctionCount (struck (given .map) road)) (given .order)) none;
-      }
+  struck-accepted = run-accepted (struck-run given road none-run inside)
 
   wrote-struck : Wrote (struckGiven given road) words sheet sheet′ answer
   wrote-struck = wrote struck-accepted (preview-plans given road words sheet (lent-accepted .mapped) inside run) plans
