@@ -1,4 +1,6 @@
 // Words of 32 bits, little-endian, at any offset of a run of bytes.
+#![tactic(auto)]
+
 ghost use Rattle.std.specs.Prelude.{◌≡◌, ◌+◌, ◌*◌, ◌≤◌, length};
 ghost use Rattle.words.specs.Word.{word_at, put_at};
 
