@@ -135,7 +135,7 @@ module _ {S : Type 0} {le : S → S → Bool} (order : Order le) where
   pub strict_length : {A B : List S} → StrictlySorted le A → StrictlySorted le B → ((x : S) → Memᴰ x A → Memᴰ x B) → length A ≤ length B
   strict_length sorted_nil sorted_nil f = zero-le
   strict_length (sorted_cons {x = a} h s) sorted_nil f = absurd (Memᴰ.not-nil (f a (Memᴰ.head refl)))
-  strict_length s (sorted_cons {x = b} {xs = ys} k t) f = at s f (λ A s' g. strict_length s' t g)
+  strict_length {A = A} s (sorted_cons {x = b} {xs = ys} k t) f = at s f (λ A' s' g. strict_length {A = A'} s' t g)
     where
       at : {A : List S} → StrictlySorted le A → ((x : S) → Memᴰ x A → Memᴰ x (b ∷ ys))
           → ((A' : List S) → StrictlySorted le A' → ((x : S) → Memᴰ x A' → Memᴰ x ys) → length A' ≤ length ys) → length A ≤ suc (length ys)
