@@ -1,4 +1,6 @@
 // Ban days, with Easter by a table, and when a banned road may be entered.
+#![tactic(auto)]
+
 ghost use Rattle.std.specs.Prelude.{◌≡◌, ◌+◌, ◌≤◌, ◌<◌};
 ghost use Rattle.calendar.specs.Easter.{easter_of};
 ghost use Rattle.calendar.specs.Gate.{is_feast_of, is_ban_day, gate_of};

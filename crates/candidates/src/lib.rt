@@ -1,5 +1,7 @@
 // The candidates of settled labels: what a cursor names, and which candidate is next. `closed` has one
 // byte a road, not 0 where the road is banned: it is there for the contracts, and no move asks for it yet.
+#![tactic(auto)]
+
 ghost use Rattle.std.specs.Prelude.{◌≡◌, true, false, ◌+◌, ◌*◌, ◌≤◌, ◌<◌, length};
 ghost use Rattle.roadmap.specs.Format.{most_roads};
 ghost use Rattle.driving.specs.Hours.{last_pause};
@@ -31,7 +33,7 @@ const HINT_BASE: u32 = 65536;
 const PAST_PARTS: u32 = Rules::WEEKLY_REST - Rules::REST;
 
 // A label and a move of it; none where the label is 0.
-#[derive(Drop)]
+#[derive(Clone, Copy)]
 struct Rival {
     label: usize,
     cursor: u32,

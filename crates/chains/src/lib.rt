@@ -1,11 +1,13 @@
 // The chain reader: the map together with the road that it has reached. The functions over it are thin and proved by
 // hand; the work is in `first_on_chain` and `next_on_chain`, which read the map's sizes from its header. A caller that
 // keeps the road's number alone goes through a reader by `first_of_junction` and `road_after`: its own loop is covered.
+#![tactic(auto)]
+
 ghost use Rattle.std.specs.Prelude.{◌≡◌};
 ghost use Rattle.roadmap.specs.Format.{first_road, next_road};
 ghost use Rattle.chains.specs.Reached.{JunctionOn, RoadOn};
 
-#[derive(Drop)]
+#[derive(Clone, Copy)]
 pub struct ChainReader<'a> {
     pub map: &'a [u8],
     pub road: u32,

@@ -1,4 +1,6 @@
 // The driver's rules and figures, the order, and the order check: refusals 9 to 11.
+#![tactic(auto)]
+
 ghost use Rattle.std.specs.Prelude.{◌≡◌, [], ◌∷◌, ◌≤◌, T, length};
 ghost use Rattle.theory.specs.Figures.{none_above};
 ghost use Rattle.replies.specs.Told.{succeeded, told_check};
@@ -11,7 +13,7 @@ use replies::{Check, Refusal};
 use seconds::{Clock, Wheel};
 
 // How long the driver may be at the wheel, and how long the pauses are that allow more.
-#[derive(Drop)]
+#[derive(Clone, Copy)]
 pub struct Rules {
     pub spell_limit: Wheel,
     pub break_time: Clock,
@@ -75,7 +77,7 @@ impl Rules {
 
 // Wheel time since the last pause that cleared it, since the last rest and since the last weekly rest; whether a first part
 // waits for its second.
-#[derive(Drop)]
+#[derive(Clone, Copy)]
 pub struct Figures {
     pub spell: Wheel,
     pub shift: Wheel,
@@ -195,7 +197,7 @@ pub fn cleared(figures: Figures, kind: u32) -> Figures
 }
 
 // What one trip asks, and the rules that it is driven by.
-#[derive(Drop)]
+#[derive(Clone, Copy)]
 pub struct Order {
     pub source: u32,
     pub target: u32,

@@ -1,4 +1,6 @@
 // Settled labels in a lent run of words, and the list of the labels at each junction.
+#![tactic(auto)]
+
 ghost use Rattle.std.specs.Prelude.{◌≡◌, ◌+◌, ◌*◌, ◌<◌, ◌≤◌, length, set};
 ghost use Rattle.theory.specs.States.{Covered};
 ghost use Rattle.states.specs.States.{covers};
@@ -39,7 +41,7 @@ const JUNCTION_BASE: u32 = 16384;
 
 // A label's candidate: the cursor that names it, 0 for none; its junction and its clock; whether
 // successors above it may be left that need a turn of their own.
-#[derive(Drop)]
+#[derive(Clone, Copy)]
 pub struct Candidate {
     pub cursor: u32,
     pub junction: u32,

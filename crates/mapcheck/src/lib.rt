@@ -1,4 +1,6 @@
 // The map check: refusals 1 to 8.
+#![tactic(auto)]
+
 ghost use Rattle.std.specs.Prelude.{true, false, ◌||◌, ◌≡◌, ◌+◌, ◌-◌, ◌≤◌, ◌<◌, length};
 ghost use Rattle.replies.specs.First.{first_of, lowest};
 ghost use Rattle.replies.specs.Told.{succeeded, told_check};
@@ -13,14 +15,14 @@ use replies::{Check, Refusal};
 use roadmap::{Junction, Road, Sizes};
 
 // The lowest place of a fault, or none.
-#[derive(Drop)]
+#[derive(Clone, Copy)]
 pub enum Found {
     At(usize),
     Nothing,
 }
 
 // The counts of a map that is as long as they need, or why there are none.
-#[derive(Drop)]
+#[derive(Clone, Copy)]
 pub enum Header {
     Fits(Sizes),
     Refused(Refusal),

@@ -1,4 +1,6 @@
 // Names of junctions, and the making of chains.
+#![tactic(auto)]
+
 ghost use Rattle.std.specs.Prelude.{◌≡◌, ℕ, ◌+◌, ◌*◌, ◌-◌, ◌≤◌};
 ghost use Rattle.replies.specs.Told.{told_name};
 ghost use Rattle.roadmap.specs.Format.{HasSizes, map_header_bytes, junction_bytes, road_bytes, junction_at};

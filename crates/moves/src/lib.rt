@@ -1,4 +1,6 @@
 // Moves: the drive and the pauses, over a map's bytes.
+#![tactic(auto)]
+
 ghost use Rattle.std.specs.Prelude.{◌≡◌, Bool, true, ℕ, ◌≤◌, T, eqb};
 ghost use Rattle.theory.specs.Figures.{none_above};
 ghost use Rattle.roadmap.specs.Format.{junction_count, road_count};
@@ -19,7 +21,7 @@ use seconds::Clock;
 use states::State;
 
 // What a run is about, beside the map's bytes: decoded once, handed down every call.
-#[derive(Drop)]
+#[derive(Clone, Copy)]
 pub struct Run {
     pub sizes: Sizes,
     pub order: Order,
@@ -28,7 +30,7 @@ pub struct Run {
 }
 
 // Kind 1 is a drive of a road, the others are pauses at a junction.
-#[derive(Drop)]
+#[derive(Clone, Copy)]
 pub struct Move {
     pub kind: u32,
     pub number: u32,
@@ -39,7 +41,7 @@ impl Move {
 }
 
 // What a move comes to: it is not offered, its result is not legal, or it leads to a state.
-#[derive(Drop)]
+#[derive(Clone, Copy)]
 pub enum Step {
     Foreign,
     Overrun,
@@ -195,7 +197,7 @@ pub fn take_move(map: &[u8], bans: &[u32], run: Run, state: State, m: Move) -> S
 }
 
 // A run whose map and order are accepted, or why there is none.
-#[derive(Drop)]
+#[derive(Clone, Copy)]
 pub enum Opened {
     Ready(Run),
     Refused(Refusal),

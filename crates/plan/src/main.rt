@@ -1,4 +1,6 @@
 // Plans the trip of the files `map` and `order` in the folder where it runs, and prints the plan.
+#![tactic(auto)]
+
 ghost use Rattle.std.specs.Prelude.{◌≤◌, length};
 ghost use Rattle.io.specs.Counts.{IsPrefixLen};
 ghost use Rattle.moves.specs.Runs.{Accepted};

@@ -1,4 +1,6 @@
 // Planning: from a map, an order and lent label space to the first-arriving legal plan.
+#![tactic(auto)]
+
 ghost use Rattle.std.specs.Prelude.{◌≡◌, ◌≤◌, length};
 ghost use Rattle.roadmap.specs.Format.{road_count};
 ghost use Rattle.moves.specs.Bans.{closed_in, listed_in, AgreeOn};

@@ -1,5 +1,7 @@
 // Reading a plan back from settled labels: the moves that lead to them, how many, and their records. `bans`
 // lists the banned roads: it is there for the contracts, and no move asks for it yet.
+#![tactic(auto)]
+
 ghost use Rattle.std.specs.Prelude.{◌≡◌, ◌&&◌, ◌≤◌, length};
 ghost use Rattle.std.proofs.Math.Option.{some};
 ghost use Rattle.roadmap.specs.Format.{road_count};

@@ -1,4 +1,6 @@
 // Hours from the tachograph: a trace of what the driver did is replayed over the driver's figures. Refusals 10, 11 and 21 to 23.
+#![tactic(auto)]
+
 ghost use Rattle.std.specs.Prelude.{◌≡◌, false, ◌*◌, ◌≤◌, length};
 ghost use Rattle.theory.specs.Figures.{none_above};
 ghost use Rattle.replies.specs.First.{first_of};
@@ -14,7 +16,7 @@ use replies::{Check, Refusal, Replaying};
 use seconds::Clock;
 
 // A pair of words of the trace: the activity says whether the seconds are wheel or clock time.
-#[derive(Drop)]
+#[derive(Clone, Copy)]
 pub struct TraceRecord {
     pub activity: u32,
     pub seconds: u32,
@@ -34,21 +36,21 @@ impl TraceRecord {
 }
 
 // The figures before the pause that is under way, and how long that pause is so far: 0 where none is.
-#[derive(Drop)]
+#[derive(Clone, Copy)]
 struct Underway {
     figures: Figures,
     pause: Clock,
 }
 
 // A record that is refused, or where the replay is after it.
-#[derive(Drop)]
+#[derive(Clone, Copy)]
 enum Step {
     Stopped(Refusal),
     Taken(Underway),
 }
 
 // What a replay ends with.
-#[derive(Drop)]
+#[derive(Clone, Copy)]
 pub struct Outcome {
     pub answer: Replaying,
     pub figures: Figures,

@@ -1,5 +1,7 @@
 // What the operations answer. Each answer is an enum; `specs/Told.antt` gives its number, place and
 // arrival, and every contract speaks of an answer through that definition.
+#![tactic(auto)]
+
 ghost use Rattle.std.specs.Prelude.{◌≡◌};
 ghost use Rattle.replies.specs.Told.{refused_at, told_refusal, told_check, told_name, told_timing, told_plan, told_replaying};
 
@@ -7,7 +9,7 @@ use seconds::Clock;
 
 // Why an operation refuses, with the place: in the order of the refusals' numbers, from 1.
 // A place may be any length of a lent slice.
-#[derive(Drop)]
+#[derive(Clone, Copy)]
 pub enum Refusal {
     ShortMap(usize),
     StrangeMap,
@@ -36,42 +38,42 @@ pub enum Refusal {
 }
 
 // Map check, order check, chain making and striking.
-#[derive(Drop)]
+#[derive(Clone, Copy)]
 pub enum Check {
     Passed,
     Refused(Refusal),
 }
 
 // The reply of name: the length of the part.
-#[derive(Drop)]
+#[derive(Clone, Copy)]
 pub enum NameReply {
     Named(usize),
     Refused(Refusal),
 }
 
 // Retiming and audit.
-#[derive(Drop)]
+#[derive(Clone, Copy)]
 pub enum Timing {
     Timed { moves: u32, arrival: Clock },
     Refused(Refusal),
 }
 
 // Planning and the preview.
-#[derive(Drop)]
+#[derive(Clone, Copy)]
 pub enum Planning {
     Planned { labels: u32, arrival: Clock },
     Refused(Refusal),
 }
 
 // Replaying a trace: how many records it has.
-#[derive(Drop)]
+#[derive(Clone, Copy)]
 pub enum Replaying {
     Replayed(usize),
     Refused(Refusal),
 }
 
 // An answer as its three numbers; the arrival is in clock seconds.
-#[derive(Drop)]
+#[derive(Clone, Copy)]
 pub struct Reply {
     pub number: u32,
     pub place: usize,

@@ -1,4 +1,6 @@
 // Retiming and audit of a plan sheet.
+#![tactic(auto)]
+
 ghost use Rattle.std.specs.Prelude.{◌≡◌, true, false, [], ◌∷◌, ◌+◌, ◌≤◌, ◌<◌, length};
 ghost use Rattle.replies.specs.Told.{told_timing};
 ghost use Rattle.moves.specs.Given.{given_of};
@@ -17,7 +19,7 @@ use sheets::{Heading, Row};
 use states::State;
 
 // Where a walk over a sheet's records ends.
-#[derive(Drop)]
+#[derive(Clone, Copy)]
 pub enum Walked {
     Refused(Refusal),
     Reached(State),

@@ -1,4 +1,6 @@
 // The road map: its format, and the time that a road takes.
+#![tactic(auto)]
+
 ghost use Rattle.std.specs.Prelude.{◌≡◌, ◌+◌, ◌*◌, ◌≤◌, length};
 ghost use Rattle.roadmap.specs.Format.{HasSizes, map_header_bytes, format, junction_count, road_count, name_bytes, junction_word, road_word, junction_of, road_of, first_road, car_park, name_start, name_length, road_from, road_to, road_metres, road_speed, next_road};
 ghost use Rattle.roadmap.specs.RoadTime.{nearest, road_seconds, most_metres, most_speed};
@@ -6,7 +8,7 @@ ghost use Rattle.roadmap.specs.RoadTime.{nearest, road_seconds, most_metres, mos
 use words::word;
 
 // How many junctions and roads a map has, and how many bytes of names.
-#[derive(Drop)]
+#[derive(Clone, Copy)]
 pub struct Sizes {
     pub junctions: u32,
     pub roads: u32,
@@ -28,7 +30,7 @@ impl Sizes {
 
 // A junction's four words: its first road, whether it is a car park, where its name starts and how
 // long that is.
-#[derive(Drop)]
+#[derive(Clone, Copy)]
 pub struct Junction {
     pub first: u32,
     pub parking: u32,
@@ -41,7 +43,7 @@ impl Junction {
 }
 
 // A road's five words.
-#[derive(Drop)]
+#[derive(Clone, Copy)]
 pub struct Road {
     pub from: u32,
     pub to: u32,

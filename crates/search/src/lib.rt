@@ -1,4 +1,6 @@
 // The search: settles labels in rank order until one is at the target, none is left, or the space is full.
+#![tactic(auto)]
+
 ghost use Rattle.std.specs.Prelude.{◌+◌, ◌*◌, ◌<◌, ◌≤◌, T, length};
 ghost use Rattle.moves.specs.Trip.{junctions_in};
 ghost use Rattle.moves.specs.Bans.{closed_in};
@@ -29,7 +31,7 @@ const FEW_ENTRIES: usize = 1024;
 
 // How a search ends: the last of so many labels is the answer, there are so many labels and no
 // journey, or there are more labels than fit.
-#[derive(Drop)]
+#[derive(Clone, Copy)]
 pub enum Outcome {
     Found(usize),
     Exhausted(usize),
@@ -37,7 +39,7 @@ pub enum Outcome {
 }
 
 // What a turn of the loop comes to: the search goes on with so many labels, or ends.
-#[derive(Drop)]
+#[derive(Clone, Copy)]
 pub enum Turn {
     Goes(usize),
     Found,

@@ -1,2 +1,3 @@
 // The laws of the search's loop over plain lists: definitions in specs/, laws in proofs/, no code.
 // Assumes nothing.
+#![tactic(auto)]

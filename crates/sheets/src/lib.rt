@@ -1,5 +1,7 @@
 // The plan sheet: six words of header, then records of three words. A move's record is written
 // into the part of the sheet behind its header.
+#![tactic(auto)]
+
 ghost use Rattle.std.specs.Prelude.{◌≡◌, ◌*◌, ◌≤◌, length};
 ghost use Rattle.sheets.specs.Sheet.{header_bytes, record_bytes, sheet_needed, heading_for, heading_of, row_at, torn, with_heading, with_row_behind, with_row};
 
@@ -8,7 +10,7 @@ use states::State;
 use words::{put_word, word};
 
 // The header's six words.
-#[derive(Drop)]
+#[derive(Clone, Copy)]
 pub struct Heading {
     pub moves: u32,
     pub arrival: Clock,
@@ -25,7 +27,7 @@ impl Heading {
 }
 
 // A move's three words: its kind, the road number or pausing junction, the clock after it.
-#[derive(Drop)]
+#[derive(Clone, Copy)]
 pub struct Row {
     pub kind: u32,
     pub number: u32,

@@ -1,4 +1,6 @@
 // A state of a trip, and how two states compare: figure by figure, in the order of the definitions.
+#![tactic(auto)]
+
 ghost use Rattle.std.specs.Prelude.{◌≡◌};
 ghost use Rattle.states.specs.LabelSpace.{labels_that_fit};
 ghost use Rattle.states.specs.States.{start_of, legal, same_state, covers, ranks_no_higher};
@@ -7,7 +9,7 @@ use driving::{Figures, Order};
 use seconds::{Clock, Wheel};
 
 // Where the lorry is and when, and the driver's figures.
-#[derive(Drop)]
+#[derive(Clone, Copy)]
 pub struct State {
     pub junction: u32,
     pub clock: Clock,

@@ -1,4 +1,6 @@
 // Striking a road, as before a closure.
+#![tactic(auto)]
+
 ghost use Rattle.std.specs.Prelude.{◌≡◌, ◌+◌, ◌*◌, ◌-◌, ◌≤◌};
 ghost use Rattle.roadmap.specs.Format.{map_header_bytes, junction_bytes, road_bytes};
 ghost use Rattle.mapcheck.specs.MapCheck.{outside};

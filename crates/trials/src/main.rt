@@ -7,6 +7,8 @@
 // holds beforehand. The sheet of planning and of a preview is the one that is lent. For replaying, the
 // order's place has an order's words 4 to 14 alone, the number is 0 without the mark and 1 with it, and
 // the sheet's place has the trace.
+#![tactic(auto)]
+
 ghost use Rattle.std.specs.Prelude.{◌≤◌, ◌<◌, length};
 
 use driving::{Figures, Rules};
@@ -32,7 +34,7 @@ const LAST_OF_SEARCH: u32 = 14;
 const MARKED_WORD: u32 = 0xEEEEEEEE;
 
 // What a case says beside its bytes.
-#[derive(Drop)]
+#[derive(Clone, Copy)]
 struct Case {
     kind: u8,
     number: u32,

@@ -1,6 +1,8 @@
 // Every operation as a function that C and Rust can call. include/trunk.h describes them to callers.
 // A slice is a pointer and a length there. The reply is written as three numbers to a lent run; who
 // has no room for it gets nothing changed.
+#![tactic(auto)]
+
 ghost use Rattle.std.specs.Prelude.{◌≡◌, ◌≤◌, length};
 ghost use Rattle.replies.specs.Told.{told_name};
 ghost use Rattle.mapedit.specs.Name.{name_reply};

@@ -1,6 +1,8 @@
 // The winner tree over settled labels: the label whose candidate ranks lowest, the lowest number on
 // a tie. Node k is label k, and holds the winner of its subtree. A mended path carries a label's
 // number and its candidate's clock; whole candidates are worked out only where two clocks are equal.
+#![tactic(auto)]
+
 ghost use Rattle.std.specs.Prelude.{◌≡◌, ◌+◌, ◌*◌, ◌/◌, ◌<◌, ◌≤◌, length};
 ghost use Rattle.moves.specs.Bans.{closed_in};
 ghost use Rattle.moves.specs.Runs.{Accepted, trip_in};
@@ -18,7 +20,7 @@ use seconds::Clock;
 use states::State;
 
 // A label and its candidate's clock; label 0 is none.
-#[derive(Drop)]
+#[derive(Clone, Copy)]
 struct Contender {
     label: usize,
     clock: Clock,
