@@ -133,7 +133,7 @@ pub eased_leads : (tb ta : Trip) → Eases tb ta → {b a t : State} {ms : List 
 eased_leads tb ta eases {b} over stay = (b, stay, over)
 eased_leads tb ta eases {b} {a} over (go {m = m} o l p) =
     let eased = eased_move tb ta eases b a m over o l in
-    let rest = eased_leads tb ta eases eased.over_after p in
+    let rest = eased_leads tb ta eases {b = after tb b m} eased.over_after p in
     (rest.0, go eased.offered eased.lawful rest.1, rest.2)
 
 -- a legal move keeps a state in range, so all that is reachable is in range

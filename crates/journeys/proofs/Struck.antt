@@ -15,6 +15,7 @@ use Rattle.moves.specs.declared.Move.{Move}
 use Rattle.moves.specs.Trip.{Trip}
 use Rattle.moves.specs.Struck.{struck_in}
 use Rattle.moves.proofs.Monotone.{eased_move}
+use Rattle.moves.specs.Moves.{after}
 use Rattle.moves.proofs.Struck.{drives, struck_order, struck_offers, struck_after, struck_drive}
 use Rattle.journeys.specs.Journeys.{Leads, stay, go, start_in, at_target, Journey}
 use Rattle.journeys.proofs.Laws.{eases_itself}
@@ -32,12 +33,12 @@ module _ (trip : Trip) (road : ℕ) where
   struck_leads {b} over stay = (b, stay, over)
   struck_leads {b} {a} over (go {m = m} o l p) =
       ⊎_elim
-      (λ (is : drives road m ≡ true). rw is (struck_leads (covers_trans b a _ over (struck_drive trip road a m o is)) p))
+      (λ (is : drives road m ≡ true). rw is (struck_leads {b = b} (covers_trans b a _ over (struck_drive trip road a m o is)) p))
       (λ (other : drives road m ≡ false).
       let same = struck_after trip road a m o other in
       let eased =
       eased_move trip trip (eases_itself trip) b a m over (rw (struck_offers trip road a m) at o) (rw (same, struck_order trip road) at l) in
-      let rest = struck_leads (rw (← same) at eased.over_after) p in
+      let rest = struck_leads {b = after trip b m} (rw (← same) at eased.over_after) p in
       rw other (rest.0, go eased.offered eased.lawful rest.1, rest.2))
       (cases (drives road m))
 

@@ -173,14 +173,14 @@ column_same read ws ws' (suc n) same =
 puts_below : (ws : List ℕ) (i f : ℕ) (vs : List ℕ) (p : ℕ) → p < i + f → get_or (puts ws i f vs) p 0 ≡ get_or ws p 0
 unfolding puts
 puts_below ws i f [] p h = refl
-puts_below ws i f (v ∷ vs) p h = puts_below _ i (f + 1) vs p (omega arith) ∙ get_or-set_other ws (i + f) p v 0 (λ e. omega arith)
+puts_below ws i f (v ∷ vs) p h = puts_below (set ws (i + f) v) i (f + 1) vs p (omega arith) ∙ get_or-set_other ws (i + f) p v 0 (λ e. omega arith)
 
 puts_at : (ws : List ℕ) (i f : ℕ) (vs : List ℕ) (g : ℕ) → i + f + length vs ≤ length ws → g < length vs → get_or (puts ws i f vs) (i + f + g) 0 ≡ get_or vs g 0
 unfolding puts
 puts_at ws i f [] g b h = absurd (omega arith)
 puts_at ws i f (v ∷ vs) zero b h = rw (add-zero (i + f)) (puts_below _ i (f + 1) vs (i + f) (omega arith) ∙ get_or-set_same ws (i + f) v 0 (omega arith))
 puts_at ws i f (v ∷ vs) (suc g) b h =
-    let e : i + f + suc g ≡ i + (f + 1) + g = omega arith in rw e (puts_at _ i (f + 1) vs g (simp length-set (omega arith)) (omega arith))
+    let e : i + f + suc g ≡ i + (f + 1) + g = omega arith in rw e (puts_at (set ws (i + f) v) i (f + 1) vs g (simp length-set (omega arith)) (omega arith))
 
 put_word : (ws : List ℕ) (n : ℕ) (vs : List ℕ) (f : ℕ) → label_words * n + length vs ≤ length ws → f < length vs → field (puts ws (label_words * n) 0 vs) (n + 1) f ≡ get_or vs f 0
 put_word ws n vs f b h = let e : at (n + 1) f ≡ label_words * n + 0 + f = omega arith in rw e (puts_at ws (label_words * n) 0 vs f (omega arith) h)
