@@ -169,7 +169,7 @@ pub fn drive(map: &[u8], bans: &[u32], run: Run, state: State, r: u32) -> Step
 pub fn pause(map: &[u8], run: Run, state: State, m: Move) -> Step
     requires accepted { Accepted map.now run }
     requires in_range { InRange (junction_count map.now) run.order state }
-    requires fact { m.kind ≡ 1 → ⊥ }
+    requires not_a_drive { m.kind ≡ 1 → ⊥ }
     ensures { (banned : ℕ → Bool) → result ≡ stepped (trip_in map.now banned run) state m }
 {
     let kind = m.kind;

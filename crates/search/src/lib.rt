@@ -105,7 +105,7 @@ fn settle_label(
     requires accepted { Accepted map.now run }
     requires underway { Underway (trip_in map.now (closed_in closed.now) run) words.old heads.old spells.old shifts.old n }
     requires chosen { Chosen (trip_in map.now (closed_in closed.now) run) words.old n w candidate }
-    requires fact { (Covered covers (settled words.old n) candidate → ⊥) × (T (at_target (trip_in map.now (closed_in closed.now) run) candidate) → ⊥) }
+    requires uncovered_off_target { (Covered covers (settled words.old n) candidate → ⊥) × (T (at_target (trip_in map.now (closed_in closed.now) run) candidate) → ⊥) }
     requires n_bound { (n + 1 < 4294967296) × (label_words * (n + 1) ≤ length words.old) × (hint_entries ≤ length hints.old) }
     ensures { Onward (trip_in map.now (closed_in closed.now) run) (key_at (trip_in map.now (closed_in closed.now) run) words.old w) words.new heads.new spells.new shifts.new (n + 1) }
 {
@@ -185,7 +185,7 @@ fn settle(
     requires accepted { Accepted map.now run }
     requires underway { Underway (trip_in map.now (closed_in closed.now) run) words.old heads.old spells.old shifts.old n }
     requires chosen { Chosen (trip_in map.now (closed_in closed.now) run) words.old n w candidate }
-    requires fact { Covered covers (settled words.old n) candidate → ⊥ }
+    requires uncovered { Covered covers (settled words.old n) candidate → ⊥ }
     requires n_le_fit { (n ≤ fit) × (fit ≤ most_labels) × (label_words * fit ≤ length words.old) × (hint_entries ≤ length hints.old) }
     ensures { TurnSays (trip_in map.now (closed_in closed.now) run) fit (key_at (trip_in map.now (closed_in closed.now) run) words.old w) n words.new heads.new spells.new shifts.new result }
 {
