@@ -7,9 +7,8 @@ usage() {
     cat <<'EOF'
 usage: test.sh
 
-Runs every test of the project: proves every crate from nothing, tries each wrong program, builds the library and
-the programs and holds them against another planner. It removes target/, and takes some 17 minutes on two cores.
-The last line is 'N passed, 0 failed', or names the step that failed.
+Runs every test of the project: proves every crate, tries each wrong program, builds the library and the programs and
+holds them against another planner. What a run proved is kept on the machine for the next one. The last line is 'N passed, 0 failed', or names the step that failed.
 
 Needs the Rattle toolchain (rt), python3, a C compiler (cc) and cargo on the path; no network.
 EOF
@@ -51,13 +50,12 @@ trap end EXIT
 step "Version of the prover"
 rt version
 
-step "Format of the sources; the definitions to believe and the wrong planners of docs/TRUST.md"
-rt fmt --check
+step "The definitions to believe and the wrong planners of docs/TRUST.md; the table of Easter"
 python3 tests/believed.py --check
 python3 tests/wrong_planners.py
+python3 tests/easter_table.py --check
 
 step "Other planner: build and self-test"
-# Not below target/, which `rt ci` removes.
 cargo build --quiet --release --offline --manifest-path tests/other/Cargo.toml --target-dir tests/other/target
 tests/other/target/release/other self-test | tail -n 1
 
@@ -70,11 +68,17 @@ python3 tests/worked_cases.py --check
 step "Pages for callers: links, worked example, refusals"
 python3 tests/pages.py
 
-step "Proofs from nothing, wrong programs and test programs (the longest step)"
-rt ci | tee "$said"
+step "Proofs, wrong programs, and the programs run (the longest step)"
+rt ci 2>&1 | tee "$said"
+# An edit that cannot be applied fails nothing there, and shows nothing.
+if grep -E '^rt: ok' "$said" | grep -qE ', [0-9]+ bad'; then
+    echo "test.sh: a wrong program is a bad edit"
+    false
+fi
 
-step "Library for C and Rust, of the crates just proved"
-rt staticlib trunk
+step "Library for C and Rust, and the program"
+tools/build.sh library
+tools/build.sh program
 
 step "Stack of each call of the library"
 cc -std=c11 -O2 -Wall -Wextra -pthread -Iinclude tests/stack_use.c target/staticlib/libtrunk.a -o target/stack_use

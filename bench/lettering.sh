@@ -15,7 +15,7 @@ if [ ! -f "$before/libbytewise.a" ]; then
     objcopy --redefine-sym trunk_check_map=bytewise_check_map --keep-global-symbol=bytewise_check_map \
         "$before/target/staticlib/libtrunk.a" "$before/libbytewise.a"
 fi
-rt staticlib trunk >&2
+tools/build.sh library >&2
 # The library just built, whatever folder the environment names.
 export TRUNK_LIB_DIR="$PWD/target/staticlib" CARGO_TARGET_DIR="$PWD/target/bench"
 cargo rustc --quiet --release --offline --manifest-path bench/Cargo.toml --bin lettering --features bytewise -- -L "native=$before"

@@ -3,7 +3,7 @@
 # With --quick: a small part. Needs rt and cargo, no network. Not part of the gate.
 set -eu
 cd "$(dirname "$0")/.."
-rt staticlib trunk >&2
+tools/build.sh library >&2
 # The library just built, whatever folder the environment names.
 export TRUNK_LIB_DIR="$PWD/target/staticlib" CARGO_TARGET_DIR="$PWD/target/bench"
 cargo build --quiet --release --offline --manifest-path bench/Cargo.toml

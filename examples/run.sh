@@ -6,7 +6,7 @@
 # must be map T with its plan; refusals and errors must be told in words. Needs rt, a C compiler and cargo; no network.
 set -euo pipefail
 cd "$(dirname "$0")/.."
-if [ "${1:-}" != --built ]; then rt staticlib trunk >&2; fi
+if [ "${1:-}" != --built ]; then tools/build.sh library >&2; fi
 
 in_both="plan_map_t replay_day preview_closure two_junctions"
 made=target/examples rust=target/rust/debug/examples order=crates/plan/data/order
@@ -85,5 +85,5 @@ if TRUNK_LIB_DIR="$PWD/$made/none" CARGO_TARGET_DIR="$PWD/$made/unlinked" \
     echo "the Rust package is built without a library" >&2
     exit 1
 fi
-grep --quiet --fixed-strings "$made/none/libtrunk.a is missing: run \`rt staticlib trunk\`" "$made/told"
+grep --quiet --fixed-strings "$made/none/libtrunk.a is missing: run \`tools/build.sh library\`" "$made/told"
 echo "Errors and refusals: told in words"

@@ -1,6 +1,6 @@
 /* The trunk lorry planner for C: a legal route with breaks and rests that arrives first.
  *
- * Build the library with `rt staticlib trunk` (it writes target/staticlib/libtrunk.a, for x86-64 Linux) and link it to a
+ * Build the library with `tools/build.sh library` (it writes target/staticlib/libtrunk.a, for x86-64 Linux) and link it to a
  * program in C99 or later, or C++:
  *     cc -Iinclude program.c target/staticlib/libtrunk.a
  *

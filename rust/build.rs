@@ -1,4 +1,4 @@
-//! Links the static library that `rt staticlib trunk` writes. The variable `TRUNK_LIB_DIR` names another folder that has
+//! Links the static library that `tools/build.sh library` writes. The variable `TRUNK_LIB_DIR` names another folder that has
 //! it; a relative one counts from this package's.
 use std::path::Path;
 
@@ -10,7 +10,7 @@ fn main() {
     println!("cargo::rerun-if-changed={}", library.display());
     if !library.is_file() {
         println!(
-            "cargo::error={} is missing: run `rt staticlib trunk` in the repository, or name its folder in TRUNK_LIB_DIR",
+            "cargo::error={} is missing: run `tools/build.sh library` in the repository, or name its folder in TRUNK_LIB_DIR",
             library.display()
         );
         return;

@@ -15,7 +15,7 @@ PAGE = TOP / "docs" / "TRUST.md"
 BEGIN, END = "<!-- believed: written by tests/believed.py -->\n", "<!-- end of believed -->\n"
 THEOREMS = TOP / "crates/demands/proofs/Demands.antt"
 STATEMENTS = [THEOREMS, TOP / "crates/trunk/specs/Calls.antt"]
-IMPORT = re.compile(r"^use Rattle·(\w+?)(?:·\w+)?\.(specs|proofs)\.([\w.-]+?)(?:\.\{(.*)\}|\s.*)?$", re.MULTILINE)
+IMPORT = re.compile(r"^use Rattle\.(?!std\.|core\.)(\w+)\.(specs|proofs)\.([\w.-]+?)(?:\.\{(.*)\}|\s.*)?$", re.MULTILINE)
 SECTION = re.compile(r"^ *module _ .*?\bwhere$", re.MULTILINE | re.DOTALL)
 STATEMENT = re.compile(r"^( *)pub (\S+) : .*?(?=^\1(?:unfolding|\2) )", re.MULTILINE | re.DOTALL)
 

@@ -1,7 +1,7 @@
 #!/usr/bin/env python3
 """Runs the program `plan` on maps and orders in folders of their own, and compares what it prints, byte for byte.
 
-    tests/program_runs.py             run target/bin/plan, which `rt check plan` builds
+    tests/program_runs.py             run target/bin/plan, which `tools/build.sh program` builds
     tests/program_runs.py PROGRAM     run another build of it
 
 The expected text is written by hand from documents 01 and 02, or given by the other planner.
@@ -195,7 +195,7 @@ def fault(program, expected, trunk, orders, reads):
 def main():
     program = pathlib.Path(sys.argv[1] if len(sys.argv) > 1 else BUILT).resolve()
     if not program.is_file():
-        sys.exit("%s is not there: build it with `rt check plan`" % program)
+        sys.exit("%s is not there: build it with `tools/build.sh program`" % program)
     subprocess.run(["cc", "-O2", "-Wall", "-Wextra", "-shared", "-fPIC", FAILING_READS, "-o", BUILT_READS], check=True)
     runs = RUNS + list(listed_runs())
     faults = 0

@@ -1,7 +1,7 @@
 /* Measures the stack that each call of the library takes, and fails where it is more than include/trunk.h says: the
  * bytes below its caller that a call changes. Frames are fixed and nothing recurses, so that a small map and the largest
  * one, planned, previewed, retimed, struck and refused, and a trace replayed and refused tell all. After
- * `rt staticlib trunk`:
+ * `tools/build.sh library`:
  *     cc -O2 -pthread -Iinclude tests/stack_use.c target/staticlib/libtrunk.a -o target/stack_use && target/stack_use */
 #define _XOPEN_SOURCE 600 /* pthread_attr_setstack */
 #include <pthread.h>

@@ -8,7 +8,7 @@ if ! "$cxx" -E -x c++ -include boost/graph/r_c_shortest_paths.hpp /dev/null >/de
     echo "Boost.Graph is not installed (Debian: libboost-dev, with g++): the comparison with it is left out"
     exit 0
 fi
-rt staticlib trunk >&2
+tools/build.sh library >&2
 export CARGO_TARGET_DIR="$PWD/target/bench"
 cargo build --quiet --release --offline --manifest-path bench/Cargo.toml --bin boost
 mkdir -p target/boost

@@ -37,7 +37,7 @@
 //! [`plan`] and [`preview`] need [`PLAN_STACK_BYTES`] of stack and every other call [`STACK_BYTES`], whatever the map.
 //! Threads of the standard library have 2 MiB unless they are given less.
 //!
-//! The package links `libtrunk.a`, which `rt staticlib trunk` writes to `target/staticlib` of the repository; the variable
+//! The package links `libtrunk.a`, which `tools/build.sh library` writes to `target/staticlib` of the repository; the variable
 //! `TRUNK_LIB_DIR` names another folder that has it, a relative one counted from this package's. It is for x86-64 Linux.
 #![warn(missing_docs)]
 
