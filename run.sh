@@ -38,15 +38,13 @@ crates_needed() { # CRATE
     ' "$top/crates.txt"
 }
 
-# Of what rt says, counts the crates that are proved and tells of those that were not before.
+# Of what rt says, counts the crates that are proved.
 tell_progress() { # TOTAL
     local total=$1 proved=0 line
     while IFS= read -r line; do
-        [[ $line =~ ^rt:\ ([^ ]+)\ proved\ \((.*)\)$ ]] || continue
+        [[ $line =~ ^crate\ ([^ ]+):\ modules ]] || continue
         proved=$((proved + 1))
-        if [[ ${BASH_REMATCH[2]} == *" s" ]]; then
-            echo "$proved of $total: ${BASH_REMATCH[1]} proved (${BASH_REMATCH[2]})" >&2
-        fi
+        echo "$proved of $total: ${BASH_REMATCH[1]} checked" >&2
     done
 }
 
@@ -67,9 +65,9 @@ if [ ! -x "$program" ]; then
 fi
 said=$(mktemp)
 trap 'rm -f "$said"' EXIT
-if ! (cd "$top" && rt check plan 2>&1) | tee "$said" | tell_progress "$(crates_needed plan)"; then
+if ! "$top/tools/build.sh" program 2>&1 | tee "$said" | tell_progress "$(crates_needed plan)"; then
     cat "$said" >&2
-    fail 1 "\`rt check plan\` failed"
+    fail 1 "\`tools/build.sh program\` failed"
 fi
 cd "$folder"
 "$program"
