@@ -1,0 +1,13 @@
+-- The store of its words adds the label, and the lists follow.
+use Rattle.std.proofs.Common.{arith}
+use Rattle.labels.proofs.LabelWords.{label_stored}
+use Rattle.labels.proofs.Lists.{lists_added}
+use Rattle.labels.proofs.add_label.Goals as goal
+
+pub returns : goal.returns
+returns c =
+    let new = label_stored _ c.store.new.words _ c.args.label _ c.args.c _ c.requires.junction_bound.1 c.requires.n_bound.1 c.store.ensures in
+    record {
+      added = new.0;
+      lists = lists_added new.0 c.requires.lists.0 c.requires.lists.1 (omega (arith, c.store.auto.words)) new.1 c.raise.ensures c.raise.auto.most c.raise-2.ensures c.raise-2.auto.most;
+    }
