@@ -1,0 +1,11 @@
+-- The rules are those of the definition, in its order.
+use Rattle.std.proofs.Common.{refl}
+use Rattle.replies.specs.declared.Refusal.TheVariants.{BadTrip}
+use Rattle.driving.specs.Order.{figure_rules, bad_figures}
+use Rattle.driving.proofs.Broken.{told_ruled}
+use Rattle.driving.proofs.check_figures.Goals as goal
+
+pub returns : goal.returns
+unfolding bad_figures
+returns c =
+    simp (c.ruled.ensures, c.ruled-check-4.ensures, c.ruled-check-3.ensures, c.ruled-check-2.ensures, c.ruled-check.ensures) (told_ruled 11 BadTrip (figure_rules c.args.figures c.args.rules) (λ w. refl))
