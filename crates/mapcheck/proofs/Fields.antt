@@ -5,7 +5,7 @@ use mathlib.Core.List.{List}
 use mathlib.Core.Option.{Option, none}
 use Prim.Native.Nat.{ℕ, ◌+◌, ◌*◌, ◌-◌}
 use native.Mathlib.Omega.{arith}
-use lib.ListN.{length}
+use lib.ListN.{length, get_or}
 use Rattle.replies.specs.First.{first_of, lowest}
 use Rattle.replies.specs.Told.{succeeded}
 use Rattle.replies.proofs.First.{passed_over}
@@ -13,7 +13,7 @@ use Rattle.roadmap.specs.declared.Junction.{Junction}
 use Rattle.roadmap.specs.declared.Road.{Road}
 use Rattle.roadmap.specs.declared.Sizes.{Sizes}
 use Rattle.roadmap.specs.Format.{HasSizes, map_header_bytes, junction_bytes, road_bytes, name_bytes, names_at, junction_of, road_of}
-use Rattle.mapcheck.specs.MapCheck.{bad_junction_fields, bad_junction_at, bad_road_fields, bad_road_at, bad_junction, bad_road, bad_letter_at, bad_lettering}
+use Rattle.mapcheck.specs.MapCheck.{outside, bad_junction_fields, bad_junction_at, bad_road_fields, bad_road_at, bad_junction, bad_road, bad_letter_at, bad_lettering}
 use Rattle.mapcheck.specs.Found.{late_tests, content_tests}
 
 module _ (links : Bool) (map : List ℕ) (sizes : Sizes) (i : ℕ) (has : HasSizes map sizes) where
@@ -30,6 +30,11 @@ module _ (links : Bool) (map : List ℕ) (sizes : Sizes) (i : ℕ) (has : HasSiz
   judged_road {road} read judged =
       rw (← has.junctions, ← has.roads)
       (sym (judged ∙ ap (λ (r : Road). bad_road_fields links sizes.junctions sizes.roads i r) read))
+
+-- a byte that was read is judged as the definition judges it
+pub judged_letter : (map : List ℕ) (i : ℕ) {bad : Bool} → bad ≡ outside 0x20 0x7E (get_or map i 0) → bad_letter_at map i ≡ bad
+unfolding bad_letter_at
+judged_letter map i judged = sym judged
 
 -- the letters are all that follows the roads
 pub judged_letters : (map : List ℕ) (sizes : Sizes) → HasSizes map sizes → {fault : Option ℕ} →
