@@ -13,7 +13,7 @@ use Rattle.moves.specs.Runs.{SoundTrip, RangeIn}
 use Rattle.states.specs.declared.State.{State}
 use Rattle.states.specs.RankNumber.{word_base}
 use Rattle.states.specs.LabelSpace.{label_words}
-use Rattle.labels.specs.LabelWords.{previous_field, cursor_field, winner_field, own_field, at, field, label_at, cursor_of, candidate_of, cursor_word, Packs, winner_of, settled, Same, SameLabels, Added, WinnerWithin}
+use Rattle.labels.specs.LabelWords.{previous_field, cursor_field, winner_field, own_field, at, field, label_at, cursor_of, candidate_of, cursor_word, Packs, winner_of, Same, SameLabels, Added, WinnerWithin}
 use Rattle.labels.specs.Tree.{Tree, TreeBut, Stored, Mending, Entering}
 use Rattle.labels.proofs.LabelWords.{set_same, set_field, word_candidate, set_label, set_labels, kept_field, kept_labels, same_label, settled_same, settled_set}
 use Rattle.labels.proofs.Tree.{under_self, beyond, beside, changed, mend_first, mend_step, mend_end, rekey, rekey_mending, rekey_entering, enter_added, enter_step, enter_stop, enter_end, stored, root_least, root_small}
