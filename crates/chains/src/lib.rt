@@ -1,6 +1,6 @@
-// The chain reader: the map together with the road that it has reached. The functions over it are thin and proved by
-// hand; the work is in `first_on_chain` and `next_on_chain`, which read the map's sizes from its header. A caller that
-// keeps the road's number alone goes through a reader by `first_of_junction` and `road_after`: its own loop is covered.
+// The chain reader: the map together with the road that it has reached. The functions over it are thin; the work is in
+// `first_on_chain` and `next_on_chain`, which read the map's sizes from its header. A caller that keeps the road's number
+// alone goes through a reader by `first_of_junction` and `road_after`.
 #![tactic(auto)]
 
 ghost use Rattle.std.specs.Prelude.{◌≡◌};
