@@ -8,4 +8,3 @@ pub mod Worked
 pub mod Accepted
 pub mod InTurn
 pub mod Followed
-pub mod Machine
