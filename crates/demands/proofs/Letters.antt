@@ -32,9 +32,9 @@ or_not false b = refl
 -- one byte is no letter, or not all the others are letters
 word_bytes_lem : (word : ℕ) → word < 4294967296 → bad_word word ≡ not (every is_letter (word_bytes word))
 unfolding every bad_word word_bytes
-word_bytes_lem word is_IsWord =
+word_bytes_lem word is_word =
     let third : word / 256 / 256 % 256 ≡ word / 65536 % 256 = omega arith in
-    let fourth : word / 256 / 256 / 256 % 256 ≡ word / 16777216 = omega (arith, is_IsWord) in
+    let fourth : word / 256 / 256 / 256 % 256 ≡ word / 16777216 = omega (arith, is_word) in
     let bad : ℕ → Bool = outside 0x20 0x7E in
     let last : Bool = is_letter (word / 16777216) && true in
     let two : Bool = is_letter (word / 65536 % 256) && last in
@@ -42,8 +42,8 @@ word_bytes_lem word is_IsWord =
     rw (third, fourth, or_not (bad (word / 16777216)) true, or_not (bad (word / 65536 % 256)) last, or_not (bad (word / 256 % 256)) two, or_not (bad (word % 256)) three) refl
 
 pub letters_exactly : (word : ℕ) → word < 4294967296 → (bad_word word ≡ false) ↔ AllLetters word
-letters_exactly word is_IsWord =
+letters_exactly word is_word =
     let all : Bool = every is_letter (word_bytes word) in (
-      λ passes byte in-it. letter_told byte (every_at is_letter (word_bytes word) (true_T (not-false all (sym (word_bytes_lem word is_IsWord) ∙ passes))) in-it),
-      λ letters. word_bytes_lem word is_IsWord ∙ rw (T_true {b = all} (every_of is_letter (word_bytes word) (λ byte in-it. letter_passes byte (letters byte in-it)))) refl,
+      λ passes byte in-it. letter_told byte (every_at is_letter (word_bytes word) (true_T (not-false all (sym (word_bytes_lem word is_word) ∙ passes))) in-it),
+      λ letters. word_bytes_lem word is_word ∙ rw (T_true {b = all} (every_of is_letter (word_bytes word) (λ byte in-it. letter_passes byte (letters byte in-it)))) refl,
     )

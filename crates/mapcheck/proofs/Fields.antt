@@ -48,4 +48,4 @@ judged_letters map sizes has judged =
 -- where neither a junction nor a road is bad, what follows decides
 pub content_passed : (links : Bool) (map : List ℕ) → bad_junction links map ≡ none → bad_road links map ≡ none →
     first_of (content_tests links map) (succeeded 0 0) ≡ first_of (late_tests links map) (succeeded 0 0)
-content_passed links map no_junction no_road_lem = passed_over _ _ _ no_junction ∙ passed_over _ _ _ no_road_lem
+content_passed links map no_junction roads_pass = passed_over _ _ _ no_junction ∙ passed_over _ _ _ roads_pass

@@ -39,7 +39,7 @@ above_it value more = omega arith
 -- the bytes of two words, the second above the first
 pub bytes_of_two : (first second : ℕ) → first < 4294967296 → bad_bytes 8 (first + second * 4294967296) ≡ (bad_word first || bad_word second)
 unfolding bad_word
-bytes_of_two first second is_IsWord =
+bytes_of_two first second is_word =
     let v1 : ℕ = first / 256 in
     let v2 : ℕ = v1 / 256 in
     let v3 : ℕ = v2 / 256 in
@@ -48,7 +48,7 @@ bytes_of_two first second is_IsWord =
     let m3 : ℕ = m2 * 256 in
     let bad : ℕ → Bool = outside 0x20 0x7E in
     let spread : first + second * 4294967296 ≡ first + m3 * 256 = omega arith in
-    let second_only : v3 / 256 + second ≡ second = omega (arith, is_IsWord) in
+    let second_only : v3 / 256 + second ≡ second = omega (arith, is_word) in
     rw (spread, above_it first m3, above_it v1 m2, above_it v2 m1, above_it v3 second, second_only, low_byte first m3, low_byte v1 m2, low_byte v2 m1, low_byte v3 second)
     (or_all (bad (first % 256)) (bad (v1 % 256)) (bad (v2 % 256)) (bad (v3 % 256)) (bad_bytes 4 second))
 

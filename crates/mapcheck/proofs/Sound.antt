@@ -104,13 +104,13 @@ module _ (map : List ℕ) where
   unfolding oversize
   sound_map accepted =
       let no_junction = lowest_is_none _ 1 _ (none_under 5 (map_tests map) accepted) in
-      let no_road_lem = lowest_is_none _ 1 _ (none_under 6 (map_tests map) accepted) in
-      let linked = sound_links no_junction no_road_lem in
+      let roads_pass = lowest_is_none _ 1 _ (none_under 6 (map_tests map) accepted) in
+      let linked = sound_links no_junction roads_pass in
       record {
         counts = in_range _ _ _ (none_under 3 (map_tests map) accepted);
         whole = has_whole map (accepted_sizes map accepted);
         junctions = λ j low high. sound_junction true j (no_junction j low (omega arith));
-        roads = λ r low high. sound_road true r (no_road_lem r low (omega arith));
+        roads = λ r low high. sound_road true r (roads_pass r low (omega arith));
         links = linked;
         chains = map_listed map linked (lowest_is_none _ 1 _ (none_under 7 (map_tests map) accepted));
       }
