@@ -107,7 +107,7 @@ module _ (map : List ℕ) (junction : ℕ) (answer : NameReply) {part : List ℕ
 -- Document 02, P4: "It should take four bytes as one word"; "Show for every word that its test passes exactly when all four bytes are 0x20 to 0x7E."
 -- The map check has a test for a word and one for two (`word_is_bad` and `pair_is_bad` of mapcheck); a test passes where it finds nothing bad.
 pub word_test_passes : (word : ℕ) → word < 4294967296 → (bad : Bool) → bad ≡ bad_word word → (bad ≡ false) ↔ AllLetters word
-word_test_passes word is_IsWord bad tested = let (told, passes) = letters_exactly word is_IsWord in (λ e. told (sym tested ∙ e), λ letters. tested ∙ passes letters)
+word_test_passes word is_word bad tested = let (told, passes) = letters_exactly word is_word in (λ e. told (sym tested ∙ e), λ letters. tested ∙ passes letters)
 
 pub pair_test_passes : (first second : ℕ) → first < 4294967296 → second < 4294967296 → (bad : Bool) → bad ≡ (bad_word first || bad_word second) →
     (bad ≡ false) ↔ (AllLetters first × AllLetters second)
@@ -344,7 +344,7 @@ module _ {given : Given} {words words' sheet sheet' : List ℕ} {answer : Planni
 
   pub count_no_road : SaysNoRoad answer → (told_plan answer).place ≡ label_count trip
   unfolding memb
-  count_no_road no_road_lem = no_road_place (accepted_by run (rw no_road_lem refl)) run no_road_lem
+  count_no_road says_no_road = no_road_place (accepted_by run (rw says_no_road refl)) run says_no_road
 
 -- DEMAND 3.
 
@@ -367,7 +367,7 @@ module _ {a b : Given} (accepted-a : AcceptedRun a) (accepted-b : AcceptedRun b)
   module _ {wordsB wordsB' sheetB sheetB' : List ℕ} {answerB : Planning} (run-b : Planned b wordsB wordsB' sheetB sheetB' answerB) where
     -- "B then never says 'no road',"
     pub easier_never_no_road : ¬ SaysNoRoad answerB
-    easier_never_no_road no_road_lem = (no_road_said accepted-b run-b (λ full. omega (arith, full))).0 no_road_lem _ _ under_b.journey
+    easier_never_no_road says_no_road = (no_road_said accepted-b run-b (λ full. omega (arith, full))).0 says_no_road _ _ under_b.journey
 
     -- "and says 'full' exactly when B's own label count exceeds B's label space."
     pub easier_full_exactly : SaysFull answerB ↔ (labels_that_fit (length wordsB) < label_count (trip_from b))
@@ -437,4 +437,4 @@ module _ {given : Given} {road : ℕ} {words words' sheet sheet' : List ℕ} {an
     preview_no_earlier planned previewed = no_earlier run previewed lent planned
 
     pub preview_no_road : SaysNoRoad planning → ¬ Plans answer
-    preview_no_road no_road_lem previewed = never_no_road run previewed lent no_road_lem
+    preview_no_road says_no_road previewed = never_no_road run previewed lent says_no_road

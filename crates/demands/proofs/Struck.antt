@@ -142,4 +142,4 @@ module _ {given : Given} {road : ℕ} {words words' sheet sheet' : List ℕ} {an
         omega (arith, none_earlier (wrote lent_accepted lent-run lent-plans) unstruck_journey.2, unstruck_journey.3)
 
     pub never_no_road : SaysNoRoad lent → ⊥
-    never_no_road no_road_lem = (no_road_said lent_accepted lent-run (λ full. omega (arith, full))).0 no_road_lem _ _ unstruck_journey.2
+    never_no_road says_no_road = (no_road_said lent_accepted lent-run (λ full. omega (arith, full))).0 says_no_road _ _ unstruck_journey.2
