@@ -9,12 +9,13 @@
 // the sheet's place has the trace.
 #![tactic(auto)]
 
-ghost use Rattle.std.specs.Prelude.{◌≤◌, ◌<◌, length};
+ghost use Rattle.std.specs.Prelude.{◌≤◌, ◌<◌, length, IfOk};
 
 use driving::{Figures, Rules};
-use libc::{STDIN_FILENO, STDOUT_FILENO};
 use replies::Reply;
 use seconds::{Clock, Wheel};
+use std::io;
+use std::io::Read;
 
 // Room for all cases. Cases that fill it may have lost their end, and are refused.
 const CASE_BYTES: usize = 524288;
@@ -41,20 +42,20 @@ struct Case {
     words: u32,
 }
 
-fn print(text: &[u8]) {
-    io::write_all(STDOUT_FILENO, text);
+fn print(rt: &impl Print, text: &[u8]) -> io::Result<()> {
+    rt.write_all(text)
 }
 
-fn print_number(number: u64) {
-    io::print_decimal(STDOUT_FILENO, number);
+fn print_number(rt: &impl Print, number: u64) -> io::Result<()> {
+    print!(rt; "{number}")
 }
 
-fn print_reply(reply: Reply) {
-    print_number(reply.number as u64);
-    print(b" ");
-    print_number(reply.place as u64);
-    print(b" ");
-    print_number(reply.arrival as u64);
+fn print_reply(rt: &impl Print, reply: Reply) -> io::Result<()> {
+    print_number(rt, reply.number as u64)?;
+    print(rt, b" ")?;
+    print_number(rt, reply.place as u64)?;
+    print(rt, b" ")?;
+    print_number(rt, reply.arrival as u64)
 }
 
 fn digit(value: u8) -> u8
@@ -70,21 +71,18 @@ fn count_of(byte: u8) -> usize
     byte as usize
 }
 
-fn print_bytes(bytes: &[u8]) {
-    let mut i = 0;
-    while i < bytes.len() {
-        let pair = [digit(bytes[i] / 16), digit(bytes[i] % 16)];
-        print(&pair);
-        i += 1;
+fn print_bytes(rt: &impl Print, bytes: &[u8]) -> io::Result<()> {
+    for byte in bytes {
+        let pair = [digit(*byte / 16), digit(*byte % 16)];
+        print(rt, &pair)?;
     }
+    Ok(())
 }
 
 // Marks every byte of a sheet, so that one that is written shows.
 fn mark(sheet: &mut [u8]) {
-    let mut i = 0;
-    while i < sheet.len() {
-        sheet[i] = 0xEE;
-        i += 1;
+    for byte in sheet {
+        *byte = 0xEE;
     }
 }
 
@@ -98,20 +96,16 @@ fn copy(from: &[u8], to: &mut [u8]) {
 }
 
 fn fill(words: &mut [u32], value: u32) {
-    let mut i = 0;
-    while i < words.len() {
-        words[i] = value;
-        i += 1;
+    for word in words {
+        *word = value;
     }
 }
 
 fn all_are(words: &[u32], value: u32) -> bool {
-    let mut i = 0;
-    while i < words.len() {
-        if words[i] != value {
+    for word in words {
+        if *word != value {
             return false;
         }
-        i += 1;
     }
     true
 }
@@ -123,50 +117,66 @@ fn chain_or_strike(case: Case, map: &mut [u8]) -> Reply {
     mapedit::make_chains(map).reply()
 }
 
-fn run_on_map(case: Case, map: &mut [u8]) {
+fn run_on_map(rt: &impl Print, case: Case, map: &mut [u8]) -> io::Result<()> {
     if case.kind == b'm' {
-        print_reply(mapcheck::check_map(map).reply());
+        print_reply(rt, mapcheck::check_map(map).reply())?;
     }
     if case.kind == b'n' {
-        print_reply(mapedit::name_reply(map, case.number).reply());
-        print(b" <");
-        print(mapedit::name(map, case.number));
-        print(b">");
+        print_reply(rt, mapedit::name_reply(map, case.number).reply())?;
+        print(rt, b" <")?;
+        print(rt, mapedit::name(map, case.number))?;
+        print(rt, b">")?;
     }
     if case.kind == b'c' || case.kind == b's' {
-        print_reply(chain_or_strike(case, map));
-        print(b" ");
-        print_bytes(map);
+        print_reply(rt, chain_or_strike(case, map))?;
+        print(rt, b" ")?;
+        print_bytes(rt, map)?;
     }
+    Ok(())
 }
 
-fn run_on_order(case: Case, order: &[u8]) {
+fn run_on_order(rt: &impl Print, case: Case, order: &[u8]) -> io::Result<()> {
     if case.kind == b'o' {
-        print_reply(driving::check_order(order, case.number).reply());
+        print_reply(rt, driving::check_order(order, case.number).reply())?;
     }
+    Ok(())
 }
 
-fn retime_marked(map: &[u8], order: &[u8], sheet: &[u8], lent: &mut [u8]) {
+fn retime_marked(
+    rt: &impl Print,
+    map: &[u8],
+    order: &[u8],
+    sheet: &[u8],
+    lent: &mut [u8],
+) -> io::Result<()> {
     mark(lent);
-    print_reply(retiming::retime(map, order, sheet, lent).reply());
-    print(b" ");
-    print_bytes(lent);
+    print_reply(rt, retiming::retime(map, order, sheet, lent).reply())?;
+    print(rt, b" ")?;
+    print_bytes(rt, lent)
 }
 
-fn run_on_sheet(case: Case, map: &[u8], order: &[u8], sheet: &[u8], space: &mut [u8]) {
+fn run_on_sheet(
+    rt: &impl Print,
+    case: Case,
+    map: &[u8],
+    order: &[u8],
+    sheet: &[u8],
+    space: &mut [u8],
+) -> io::Result<()> {
     if case.kind == b'a' {
-        print_reply(retiming::audit(map, order, sheet).reply());
+        print_reply(rt, retiming::audit(map, order, sheet).reply())?;
     }
     let lent = case.number as usize;
     if case.kind == b'r' && lent <= space.len() {
-        retime_marked(map, order, sheet, &mut space[0..lent]);
+        retime_marked(rt, map, order, sheet, &mut space[0..lent])?;
     }
+    Ok(())
 }
 
 // Prints the reply, and the figures afterwards.
-fn run_replay(marked: bool, hours: &[u8], trace: &[u8]) {
+fn run_replay(rt: &impl Print, marked: bool, hours: &[u8], trace: &[u8]) -> io::Result<()> {
     if hours.len() != HOURS_BYTES {
-        return;
+        return Ok(());
     }
     let figures = Figures {
         spell: Wheel(words::word(hours, 0)),
@@ -187,29 +197,29 @@ fn run_replay(marked: bool, hours: &[u8], trace: &[u8]) {
     let outcome = replay::replay_from(trace, rules, figures);
     let answer = outcome.answer;
     let after = outcome.figures;
-    print_reply(answer.reply());
-    print(b" ");
-    print_number(after.spell.0 as u64);
-    print(b" ");
-    print_number(after.shift.0 as u64);
-    print(b" ");
-    print_number(after.week.0 as u64);
+    print_reply(rt, answer.reply())?;
+    print(rt, b" ")?;
+    print_number(rt, after.spell.0 as u64)?;
+    print(rt, b" ")?;
+    print_number(rt, after.shift.0 as u64)?;
+    print(rt, b" ")?;
+    print_number(rt, after.week.0 as u64)?;
     if after.marked {
-        print(b" 1");
+        print(rt, b" 1")
     } else {
-        print(b" 0");
+        print(rt, b" 0")
     }
 }
 
 // Where a refusal came before the search, whether every label word is as it was.
-fn print_kept(number: u32, words: &[u32], before: u32) {
+fn print_kept(rt: &impl Print, number: u32, words: &[u32], before: u32) -> io::Result<()> {
     if number == 0 || (FIRST_OF_SEARCH <= number && number <= LAST_OF_SEARCH) {
-        return;
+        return Ok(());
     }
     if all_are(words, before) {
-        print(b" kept");
+        print(rt, b" kept")
     } else {
-        print(b" changed");
+        print(rt, b" changed")
     }
 }
 
@@ -236,59 +246,65 @@ fn plan_or_preview(
 
 // With label words that all hold the same, and a lent sheet that holds the case's.
 fn plan_filled(
+    rt: &impl Print,
     case: Case,
     map: &[u8],
     order: &[u8],
     sheet: &[u8],
     words: &mut [u32],
     lent: &mut [u8],
-) {
+) -> io::Result<()> {
     let before = held_before(case);
     fill(words, before);
     copy(sheet, lent);
     let reply = plan_or_preview(case, map, order, words, lent);
-    print_reply(reply);
-    print(b" ");
-    print_bytes(lent);
-    print_kept(reply.number, words, before);
+    print_reply(rt, reply)?;
+    print(rt, b" ")?;
+    print_bytes(rt, lent)?;
+    print_kept(rt, reply.number, words, before)
 }
 
 fn run_planning(
+    rt: &impl Print,
     case: Case,
     map: &[u8],
     order: &[u8],
     sheet: &[u8],
     space: &mut [u8],
     labels: &mut [u32],
-) {
+) -> io::Result<()> {
     let lent = sheet.len();
     let words = case.words as usize;
     if lent <= space.len() && words <= labels.len() {
         plan_filled(
+            rt,
             case,
             map,
             order,
             sheet,
             &mut labels[0..words],
             &mut space[0..lent],
-        );
+        )?;
     }
+    Ok(())
 }
 
 // Runs a case on its bytes: the map, then the order from `order` on, then the sheet from `sheet` on.
 fn run(
+    rt: &impl Print,
     case: Case,
     bytes: &mut [u8],
     order: usize,
     sheet: usize,
     space: &mut [u8],
     labels: &mut [u32],
-)
+) -> io::Result<()>
     requires { (order ≤ sheet) × (sheet ≤ length bytes.old) }
 {
     let end = bytes.len();
     if case.kind == b'p' || case.kind == b'v' {
-        run_planning(
+        return run_planning(
+            rt,
             case,
             &bytes[0..order],
             &bytes[order..sheet],
@@ -296,35 +312,46 @@ fn run(
             space,
             labels,
         );
-        return;
     }
     if case.kind == b't' {
-        run_replay(case.number != 0, &bytes[order..sheet], &bytes[sheet..end]);
-        return;
+        return run_replay(
+            rt,
+            case.number != 0,
+            &bytes[order..sheet],
+            &bytes[sheet..end],
+        );
     }
     run_on_sheet(
+        rt,
         case,
         &bytes[0..order],
         &bytes[order..sheet],
         &bytes[sheet..end],
         space,
-    );
-    run_on_order(case, &bytes[order..sheet]);
-    run_on_map(case, &mut bytes[0..order]);
+    )?;
+    run_on_order(rt, case, &bytes[order..sheet])?;
+    run_on_map(rt, case, &mut bytes[0..order])
 }
 
 // Runs the case that starts at `at` of the first n bytes, and returns where the next one starts.
-fn run_case(cases: &mut [u8], n: usize, at: usize, space: &mut [u8], labels: &mut [u32]) -> usize
+fn run_case(
+    rt: &impl Print,
+    cases: &mut [u8],
+    n: usize,
+    at: usize,
+    space: &mut [u8],
+    labels: &mut [u32],
+) -> io::Result<usize>
     requires { (n ≤ length cases.old) × (at < n) }
-    ensures { at < result }
+    ensures { IfOk result (λ next. at < next) }
 {
     if n - at < 2 {
-        return n;
+        return Ok(n);
     }
     let title = at + 2;
     let header = title + count_of(cases[at + 1]);
     if n < header + HEADER_BYTES {
-        return n;
+        return Ok(n);
     }
     let case = Case {
         kind: cases[at],
@@ -336,37 +363,60 @@ fn run_case(cases: &mut [u8], n: usize, at: usize, space: &mut [u8], labels: &mu
     let sheet = order + (words::word(cases, header + 12) as usize);
     let end = sheet + (words::word(cases, header + 16) as usize);
     if n < end {
-        return n;
+        return Ok(n);
     }
-    print(&cases[title..header]);
-    print(b": ");
+    print(rt, &cases[title..header])?;
+    print(rt, b": ")?;
     run(
+        rt,
         case,
         &mut cases[map..end],
         order - map,
         sheet - map,
         space,
         labels,
-    );
-    print(b"\n");
-    end
+    )?;
+    print(rt, b"\n")?;
+    Ok(end)
 }
 
-fn run_all(cases: &mut [u8], space: &mut [u8], labels: &mut [u32]) {
-    let n = io::read_full(STDIN_FILENO, cases);
+// Reads until the space is full, the input ends or a read fails, and returns how many bytes there
+// are at the start of the space.
+fn read_full(input: &mut impl Read, space: &mut [u8]) -> usize
+    ensures { result ≤ length space.new }
+{
+    let mut done = 0;
+    while done < space.len() {
+        match input.read(&mut space[done..]) {
+            Err(_) => return done,
+            Ok(0) => return done,
+            Ok(more) => done += more,
+        }
+    }
+    done
+}
+
+fn run_all(
+    rt: &impl Print,
+    input: &mut impl Read,
+    cases: &mut [u8],
+    space: &mut [u8],
+    labels: &mut [u32],
+) -> io::Result<()> {
+    let n = read_full(input, cases);
     if n == cases.len() {
-        print(b"too many cases\n");
-        return;
+        return print(rt, b"too many cases\n");
     }
     let mut at = 0;
     while at < n {
-        at = run_case(cases, n, at, space, labels);
+        at = run_case(rt, cases, n, at, space, labels)?;
     }
+    Ok(())
 }
 
-fn main() {
-    let mut cases = [0u8; CASE_BYTES];
+fn main(rt: HostRuntime) -> io::Result<()> {
+    let mut cases = vec![in rt.alloc(); 0u8; CASE_BYTES]?;
     let mut sheet = [0u8; 1024];
     let mut labels = [0u32; 4096];
-    run_all(&mut cases, &mut sheet, &mut labels);
+    run_all(&rt, &mut rt.stdin(), &mut cases, &mut sheet, &mut labels)
 }
