@@ -6,6 +6,7 @@ ghost use Rattle.moves.specs.Runs.{Accepted};
 ghost use Rattle.sheets.specs.Sheet.{header_bytes};
 
 use driving::Rules;
+use itoa::Buffer;
 use moves::{Move, Opened, Run};
 use replies::Reply;
 use sheets::{Heading, Row};
@@ -73,14 +74,14 @@ fn put_text(
 
 // A space, then the number.
 fn put_number(
-    rt: &(impl Print + AllocGlobal),
+    rt: &impl Print,
     page: &mut [u8; PAGE_BYTES],
     used: usize,
     number: u64,
 ) -> io::Result<usize> {
-    let digits = format!(in rt.alloc(); "{number}")?;
+    let mut digits = Buffer::new();
     let end = put_byte(rt, page, used, b' ')?;
-    put_text(rt, page, end, digits.as_bytes())
+    put_text(rt, page, end, digits.format(number).as_bytes())
 }
 
 fn put_kind(
@@ -124,7 +125,7 @@ fn reached(map: &[u8], run: Run, row: Row) -> u32
 
 // The line of a move: its word, its number, the name of the junction reached, the clock.
 fn put_move(
-    rt: &(impl Print + AllocGlobal),
+    rt: &impl Print,
     page: &mut [u8; PAGE_BYTES],
     used: usize,
     map: &[u8],
@@ -144,7 +145,7 @@ fn put_move(
 
 // The plan's sheet holds a record for every move: that it is long enough is tested, not proved.
 fn put_moves(
-    rt: &(impl Print + AllocGlobal),
+    rt: &impl Print,
     page: &mut [u8; PAGE_BYTES],
     map: &[u8],
     run: Run,
@@ -167,7 +168,7 @@ fn put_moves(
 
 // The last line: arrival, spell, shift and the label count N.
 fn put_arrival(
-    rt: &(impl Print + AllocGlobal),
+    rt: &impl Print,
     page: &mut [u8; PAGE_BYTES],
     used: usize,
     heading: Heading,
@@ -183,7 +184,7 @@ fn put_arrival(
     put_byte(rt, page, end, b'\n')
 }
 
-fn print_refusal(rt: &(impl Print + AllocGlobal), reply: Reply) -> io::Result<()> {
+fn print_refusal(rt: &impl Print, reply: Reply) -> io::Result<()> {
     let mut page = [0u8; PAGE_BYTES];
     let mut end = put_text(rt, &mut page, 0, b"refused")?;
     end = put_number(rt, &mut page, end, reply.number as u64)?;
@@ -193,7 +194,7 @@ fn print_refusal(rt: &(impl Print + AllocGlobal), reply: Reply) -> io::Result<()
 }
 
 // The listing of a plan's sheet.
-fn print_run(rt: &(impl Print + AllocGlobal), map: &[u8], run: Run, sheet: &[u8]) -> io::Result<()>
+fn print_run(rt: &impl Print, map: &[u8], run: Run, sheet: &[u8]) -> io::Result<()>
     requires accepted { Accepted map.now run }
     requires header_bytes_in_bounds { header_bytes ≤ length sheet.now }
 {
@@ -204,12 +205,7 @@ fn print_run(rt: &(impl Print + AllocGlobal), map: &[u8], run: Run, sheet: &[u8]
 }
 
 // The run is opened once more for the map's sizes.
-fn print_plan(
-    rt: &(impl Print + AllocGlobal),
-    map: &[u8],
-    order: &[u8],
-    sheet: &[u8],
-) -> io::Result<()>
+fn print_plan(rt: &impl Print, map: &[u8], order: &[u8], sheet: &[u8]) -> io::Result<()>
     requires { header_bytes ≤ length sheet.now }
 {
     let opened = moves::open_run(map, order);
@@ -219,7 +215,7 @@ fn print_plan(
     Ok(())
 }
 
-fn plan_and_print(rt: &(impl Print + AllocGlobal), map: &[u8], order: &[u8]) -> io::Result<()> {
+fn plan_and_print(rt: &impl Print, map: &[u8], order: &[u8]) -> io::Result<()> {
     let mut words = [0u32; SPACE_WORDS];
     let mut sheet = [0u8; SHEET_BYTES];
     let reply = planner::plan(map, order, &mut words, &mut sheet).reply();
