@@ -18,8 +18,8 @@ library)
     put crates/trunk/out/libtrunk.a target/staticlib
     ;;
 program)
-    # The program is run once where it is built: in its crate's data/, as the gate does.
-    (cd crates/plan/data && rt run plan >/dev/null)
+    # `rt run` builds it and runs it once, in its crate's folder, where it finds no map.
+    (cd crates/plan && rt run >/dev/null)
     put crates/plan/out/plan target/bin
     ;;
 *)
