@@ -1,7 +1,7 @@
 // Plans the trip of the files `map` and `order` in the folder where it runs, and prints the plan.
 #![tactic(auto)]
 
-ghost use Rattle.std.specs.Prelude.{◌≤◌, length, IfOk};
+ghost use Rattle.std.specs.Prelude.{◌≤◌, length};
 ghost use Rattle.moves.specs.Runs.{Accepted};
 ghost use Rattle.sheets.specs.Sheet.{header_bytes};
 
@@ -11,9 +11,9 @@ use moves::{Move, Opened, Run};
 use replies::Reply;
 use sheets::{Heading, Row};
 use states::State;
+use std::fs;
 use std::io::Read;
 use std::rt::Files;
-use std::{fs, io};
 
 // Map and order together may fill so many bytes.
 const MOST_BYTES: usize = 65536;
@@ -34,62 +34,42 @@ const PAGE_BYTES: usize = 4096;
 
 // Adds a byte to the first `used` of the page, which are written out first where they fill it, and
 // returns how many are used then.
-fn put_byte(
-    rt: &impl Print,
-    page: &mut [u8; PAGE_BYTES],
-    used: usize,
-    byte: u8,
-) -> io::Result<usize>
-    ensures { IfOk result (λ end. end ≤ 4096) }
+fn put_byte(rt: &impl Print, page: &mut [u8; PAGE_BYTES], used: usize, byte: u8) -> usize
+    ensures { result ≤ 4096 }
 {
     if used < PAGE_BYTES {
         page[used] = byte;
-        return Ok(used + 1);
+        return used + 1;
     }
-    rt.write_all(page)?;
+    let _ = rt.write_all(page);
     page[0] = byte;
-    Ok(1)
+    1
 }
 
 // Writes out the first `used` bytes of the page.
-fn write_page(rt: &impl Print, page: &[u8; PAGE_BYTES], used: usize) -> io::Result<()>
+fn write_page(rt: &impl Print, page: &[u8; PAGE_BYTES], used: usize)
     requires { used ≤ 4096 }
 {
     let whole = &page[..];
-    rt.write_all(&whole[0..used])
+    let _ = rt.write_all(&whole[0..used]);
 }
 
-fn put_text(
-    rt: &impl Print,
-    page: &mut [u8; PAGE_BYTES],
-    used: usize,
-    text: &[u8],
-) -> io::Result<usize> {
+fn put_text(rt: &impl Print, page: &mut [u8; PAGE_BYTES], used: usize, text: &[u8]) -> usize {
     let mut end = used;
     for byte in text {
-        end = put_byte(rt, page, end, *byte)?;
+        end = put_byte(rt, page, end, *byte);
     }
-    Ok(end)
+    end
 }
 
 // A space, then the number.
-fn put_number(
-    rt: &impl Print,
-    page: &mut [u8; PAGE_BYTES],
-    used: usize,
-    number: u64,
-) -> io::Result<usize> {
+fn put_number(rt: &impl Print, page: &mut [u8; PAGE_BYTES], used: usize, number: u64) -> usize {
     let mut digits = Buffer::new();
-    let end = put_byte(rt, page, used, b' ')?;
+    let end = put_byte(rt, page, used, b' ');
     put_text(rt, page, end, digits.format(number).as_bytes())
 }
 
-fn put_kind(
-    rt: &impl Print,
-    page: &mut [u8; PAGE_BYTES],
-    used: usize,
-    kind: u32,
-) -> io::Result<usize> {
+fn put_kind(rt: &impl Print, page: &mut [u8; PAGE_BYTES], used: usize, kind: u32) -> usize {
     if kind == Move::DRIVE {
         return put_text(rt, page, used, b"drive");
     }
@@ -131,15 +111,15 @@ fn put_move(
     map: &[u8],
     run: Run,
     row: Row,
-) -> io::Result<usize>
+) -> usize
     requires { Accepted map.now run }
 {
-    let mut end = put_kind(rt, page, used, row.kind)?;
-    end = put_number(rt, page, end, row.number as u64)?;
-    end = put_byte(rt, page, end, b' ')?;
+    let mut end = put_kind(rt, page, used, row.kind);
+    end = put_number(rt, page, end, row.number as u64);
+    end = put_byte(rt, page, end, b' ');
     let junction = reached(map, run, row);
-    end = put_text(rt, page, end, mapedit::name(map, junction))?;
-    end = put_number(rt, page, end, row.clock.0 as u64)?;
+    end = put_text(rt, page, end, mapedit::name(map, junction));
+    end = put_number(rt, page, end, row.clock.0 as u64);
     put_byte(rt, page, end, b'\n')
 }
 
@@ -150,7 +130,7 @@ fn put_moves(
     map: &[u8],
     run: Run,
     sheet: &[u8],
-) -> io::Result<usize>
+) -> usize
     requires accepted { Accepted map.now run }
     requires header_bytes_in_bounds { header_bytes ≤ length sheet.now }
 {
@@ -160,69 +140,64 @@ fn put_moves(
     let mut k = 1;
     while k <= moves && sheets::sheet_needed(k as u32) <= sheet.len() {
         let row = sheets::read_row(sheet, k);
-        end = put_move(rt, page, end, map, run, row)?;
+        end = put_move(rt, page, end, map, run, row);
         k += 1;
     }
-    Ok(end)
+    end
 }
 
 // The last line: arrival, spell, shift and the label count N.
-fn put_arrival(
-    rt: &impl Print,
-    page: &mut [u8; PAGE_BYTES],
-    used: usize,
-    heading: Heading,
-) -> io::Result<usize>
-    ensures { IfOk result (λ end. end ≤ 4096) }
+fn put_arrival(rt: &impl Print, page: &mut [u8; PAGE_BYTES], used: usize, heading: Heading) -> usize
+    ensures { result ≤ 4096 }
 {
-    let mut end = put_text(rt, page, used, b"arrive")?;
-    end = put_number(rt, page, end, heading.arrival.0 as u64)?;
-    end = put_number(rt, page, end, heading.spell.0 as u64)?;
-    end = put_number(rt, page, end, heading.shift.0 as u64)?;
-    end = put_text(rt, page, end, b" labels")?;
-    end = put_number(rt, page, end, heading.labels as u64)?;
+    let mut end = put_text(rt, page, used, b"arrive");
+    end = put_number(rt, page, end, heading.arrival.0 as u64);
+    end = put_number(rt, page, end, heading.spell.0 as u64);
+    end = put_number(rt, page, end, heading.shift.0 as u64);
+    end = put_text(rt, page, end, b" labels");
+    end = put_number(rt, page, end, heading.labels as u64);
     put_byte(rt, page, end, b'\n')
 }
 
-fn print_refusal(rt: &impl Print, reply: Reply) -> io::Result<()> {
+fn print_refusal(rt: &impl Print, reply: Reply) {
     let mut page = [0u8; PAGE_BYTES];
-    let mut end = put_text(rt, &mut page, 0, b"refused")?;
-    end = put_number(rt, &mut page, end, reply.number as u64)?;
-    end = put_number(rt, &mut page, end, reply.place as u64)?;
-    end = put_byte(rt, &mut page, end, b'\n')?;
-    write_page(rt, &page, end)
+    let mut end = put_text(rt, &mut page, 0, b"refused");
+    end = put_number(rt, &mut page, end, reply.number as u64);
+    end = put_number(rt, &mut page, end, reply.place as u64);
+    end = put_byte(rt, &mut page, end, b'\n');
+    write_page(rt, &page, end);
 }
 
 // The listing of a plan's sheet.
-fn print_run(rt: &impl Print, map: &[u8], run: Run, sheet: &[u8]) -> io::Result<()>
+fn print_run(rt: &impl Print, map: &[u8], run: Run, sheet: &[u8])
     requires accepted { Accepted map.now run }
     requires header_bytes_in_bounds { header_bytes ≤ length sheet.now }
 {
     let mut page = [0u8; PAGE_BYTES];
-    let mut end = put_moves(rt, &mut page, map, run, sheet)?;
-    end = put_arrival(rt, &mut page, end, sheets::read_heading(sheet))?;
-    write_page(rt, &page, end)
+    let mut end = put_moves(rt, &mut page, map, run, sheet);
+    end = put_arrival(rt, &mut page, end, sheets::read_heading(sheet));
+    write_page(rt, &page, end);
 }
 
 // The run is opened once more for the map's sizes.
-fn print_plan(rt: &impl Print, map: &[u8], order: &[u8], sheet: &[u8]) -> io::Result<()>
+fn print_plan(rt: &impl Print, map: &[u8], order: &[u8], sheet: &[u8])
     requires { header_bytes ≤ length sheet.now }
 {
     let opened = moves::open_run(map, order);
     if let Opened::Ready(run) = opened {
-        return print_run(rt, map, run, sheet);
+        print_run(rt, map, run, sheet);
     }
-    Ok(())
 }
 
-fn plan_and_print(rt: &impl Print, map: &[u8], order: &[u8]) -> io::Result<()> {
+fn plan_and_print(rt: &impl Print, map: &[u8], order: &[u8]) {
     let mut words = [0u32; SPACE_WORDS];
     let mut sheet = [0u8; SHEET_BYTES];
     let reply = planner::plan(map, order, &mut words, &mut sheet).reply();
     if reply.number != 0 {
-        return print_refusal(rt, reply);
+        print_refusal(rt, reply);
+        return;
     }
-    print_plan(rt, map, order, &sheet)
+    print_plan(rt, map, order, &sheet);
 }
 
 // Reads until the file ends or the space is full, and returns how many bytes there are. One read
@@ -252,13 +227,14 @@ fn read_file(rt: &impl Files, name: &str, space: &mut [u8]) -> usize
     }
 }
 
-fn main(rt: HostRuntime) -> io::Result<()> {
+fn main(rt: HostRuntime) {
     let mut map = [0u8; FILE_BYTES];
     let mut order = [0u8; FILE_BYTES];
     let map_length = read_file(&rt, "map", &mut map);
     let order_length = read_file(&rt, "order", &mut order);
     if MOST_BYTES < map_length + order_length {
-        return rt.write_all(b"too big\n");
+        let _ = rt.write_all(b"too big\n");
+        return;
     }
-    plan_and_print(&rt, &map[..map_length], &order[..order_length])
+    plan_and_print(&rt, &map[..map_length], &order[..order_length]);
 }

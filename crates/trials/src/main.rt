@@ -9,7 +9,7 @@
 // the sheet's place has the trace.
 #![tactic(auto)]
 
-ghost use Rattle.std.specs.Prelude.{◌≤◌, ◌<◌, length, IfOk};
+ghost use Rattle.std.specs.Prelude.{◌≤◌, ◌<◌, length};
 
 use driving::{Figures, Rules};
 use replies::Reply;
@@ -42,20 +42,20 @@ struct Case {
     words: u32,
 }
 
-fn print(rt: &impl Print, text: &[u8]) -> io::Result<()> {
-    rt.write_all(text)
+fn print(rt: &impl Print, text: &[u8]) {
+    let _ = rt.write_all(text);
 }
 
-fn print_number(rt: &impl Print, number: u64) -> io::Result<()> {
-    print!(rt; "{number}")
+fn print_number(rt: &impl Print, number: u64) {
+    let _ = print!(rt; "{number}");
 }
 
-fn print_reply(rt: &impl Print, reply: Reply) -> io::Result<()> {
-    print_number(rt, reply.number as u64)?;
-    print(rt, b" ")?;
-    print_number(rt, reply.place as u64)?;
-    print(rt, b" ")?;
-    print_number(rt, reply.arrival as u64)
+fn print_reply(rt: &impl Print, reply: Reply) {
+    print_number(rt, reply.number as u64);
+    print(rt, b" ");
+    print_number(rt, reply.place as u64);
+    print(rt, b" ");
+    print_number(rt, reply.arrival as u64);
 }
 
 fn digit(value: u8) -> u8
@@ -71,12 +71,11 @@ fn count_of(byte: u8) -> usize
     byte as usize
 }
 
-fn print_bytes(rt: &impl Print, bytes: &[u8]) -> io::Result<()> {
+fn print_bytes(rt: &impl Print, bytes: &[u8]) {
     for byte in bytes {
         let pair = [digit(*byte / 16), digit(*byte % 16)];
-        print(rt, &pair)?;
+        print(rt, &pair);
     }
-    Ok(())
 }
 
 // Marks every byte of a sheet, so that one that is written shows.
@@ -117,42 +116,34 @@ fn chain_or_strike(case: Case, map: &mut [u8]) -> Reply {
     mapedit::make_chains(map).reply()
 }
 
-fn run_on_map(rt: &impl Print, case: Case, map: &mut [u8]) -> io::Result<()> {
+fn run_on_map(rt: &impl Print, case: Case, map: &mut [u8]) {
     if case.kind == b'm' {
-        print_reply(rt, mapcheck::check_map(map).reply())?;
+        print_reply(rt, mapcheck::check_map(map).reply());
     }
     if case.kind == b'n' {
-        print_reply(rt, mapedit::name_reply(map, case.number).reply())?;
-        print(rt, b" <")?;
-        print(rt, mapedit::name(map, case.number))?;
-        print(rt, b">")?;
+        print_reply(rt, mapedit::name_reply(map, case.number).reply());
+        print(rt, b" <");
+        print(rt, mapedit::name(map, case.number));
+        print(rt, b">");
     }
     if case.kind == b'c' || case.kind == b's' {
-        print_reply(rt, chain_or_strike(case, map))?;
-        print(rt, b" ")?;
-        print_bytes(rt, map)?;
+        print_reply(rt, chain_or_strike(case, map));
+        print(rt, b" ");
+        print_bytes(rt, map);
     }
-    Ok(())
 }
 
-fn run_on_order(rt: &impl Print, case: Case, order: &[u8]) -> io::Result<()> {
+fn run_on_order(rt: &impl Print, case: Case, order: &[u8]) {
     if case.kind == b'o' {
-        print_reply(rt, driving::check_order(order, case.number).reply())?;
+        print_reply(rt, driving::check_order(order, case.number).reply());
     }
-    Ok(())
 }
 
-fn retime_marked(
-    rt: &impl Print,
-    map: &[u8],
-    order: &[u8],
-    sheet: &[u8],
-    lent: &mut [u8],
-) -> io::Result<()> {
+fn retime_marked(rt: &impl Print, map: &[u8], order: &[u8], sheet: &[u8], lent: &mut [u8]) {
     mark(lent);
-    print_reply(rt, retiming::retime(map, order, sheet, lent).reply())?;
-    print(rt, b" ")?;
-    print_bytes(rt, lent)
+    print_reply(rt, retiming::retime(map, order, sheet, lent).reply());
+    print(rt, b" ");
+    print_bytes(rt, lent);
 }
 
 fn run_on_sheet(
@@ -162,21 +153,20 @@ fn run_on_sheet(
     order: &[u8],
     sheet: &[u8],
     space: &mut [u8],
-) -> io::Result<()> {
+) {
     if case.kind == b'a' {
-        print_reply(rt, retiming::audit(map, order, sheet).reply())?;
+        print_reply(rt, retiming::audit(map, order, sheet).reply());
     }
     let lent = case.number as usize;
     if case.kind == b'r' && lent <= space.len() {
-        retime_marked(rt, map, order, sheet, &mut space[0..lent])?;
+        retime_marked(rt, map, order, sheet, &mut space[0..lent]);
     }
-    Ok(())
 }
 
 // Prints the reply, and the figures afterwards.
-fn run_replay(rt: &impl Print, marked: bool, hours: &[u8], trace: &[u8]) -> io::Result<()> {
+fn run_replay(rt: &impl Print, marked: bool, hours: &[u8], trace: &[u8]) {
     if hours.len() != HOURS_BYTES {
-        return Ok(());
+        return;
     }
     let figures = Figures {
         spell: Wheel(words::word(hours, 0)),
@@ -197,29 +187,29 @@ fn run_replay(rt: &impl Print, marked: bool, hours: &[u8], trace: &[u8]) -> io::
     let outcome = replay::replay_from(trace, rules, figures);
     let answer = outcome.answer;
     let after = outcome.figures;
-    print_reply(rt, answer.reply())?;
-    print(rt, b" ")?;
-    print_number(rt, after.spell.0 as u64)?;
-    print(rt, b" ")?;
-    print_number(rt, after.shift.0 as u64)?;
-    print(rt, b" ")?;
-    print_number(rt, after.week.0 as u64)?;
+    print_reply(rt, answer.reply());
+    print(rt, b" ");
+    print_number(rt, after.spell.0 as u64);
+    print(rt, b" ");
+    print_number(rt, after.shift.0 as u64);
+    print(rt, b" ");
+    print_number(rt, after.week.0 as u64);
     if after.marked {
-        print(rt, b" 1")
+        print(rt, b" 1");
     } else {
-        print(rt, b" 0")
+        print(rt, b" 0");
     }
 }
 
 // Where a refusal came before the search, whether every label word is as it was.
-fn print_kept(rt: &impl Print, number: u32, words: &[u32], before: u32) -> io::Result<()> {
+fn print_kept(rt: &impl Print, number: u32, words: &[u32], before: u32) {
     if number == 0 || (FIRST_OF_SEARCH <= number && number <= LAST_OF_SEARCH) {
-        return Ok(());
+        return;
     }
     if all_are(words, before) {
-        print(rt, b" kept")
+        print(rt, b" kept");
     } else {
-        print(rt, b" changed")
+        print(rt, b" changed");
     }
 }
 
@@ -253,15 +243,15 @@ fn plan_filled(
     sheet: &[u8],
     words: &mut [u32],
     lent: &mut [u8],
-) -> io::Result<()> {
+) {
     let before = held_before(case);
     fill(words, before);
     copy(sheet, lent);
     let reply = plan_or_preview(case, map, order, words, lent);
-    print_reply(rt, reply)?;
-    print(rt, b" ")?;
-    print_bytes(rt, lent)?;
-    print_kept(rt, reply.number, words, before)
+    print_reply(rt, reply);
+    print(rt, b" ");
+    print_bytes(rt, lent);
+    print_kept(rt, reply.number, words, before);
 }
 
 fn run_planning(
@@ -272,7 +262,7 @@ fn run_planning(
     sheet: &[u8],
     space: &mut [u8],
     labels: &mut [u32],
-) -> io::Result<()> {
+) {
     let lent = sheet.len();
     let words = case.words as usize;
     if lent <= space.len() && words <= labels.len() {
@@ -284,9 +274,8 @@ fn run_planning(
             sheet,
             &mut labels[0..words],
             &mut space[0..lent],
-        )?;
+        );
     }
-    Ok(())
 }
 
 // Runs a case on its bytes: the map, then the order from `order` on, then the sheet from `sheet` on.
@@ -298,12 +287,12 @@ fn run(
     sheet: usize,
     space: &mut [u8],
     labels: &mut [u32],
-) -> io::Result<()>
+)
     requires { (order ≤ sheet) × (sheet ≤ length bytes.old) }
 {
     let end = bytes.len();
     if case.kind == b'p' || case.kind == b'v' {
-        return run_planning(
+        run_planning(
             rt,
             case,
             &bytes[0..order],
@@ -312,14 +301,16 @@ fn run(
             space,
             labels,
         );
+        return;
     }
     if case.kind == b't' {
-        return run_replay(
+        run_replay(
             rt,
             case.number != 0,
             &bytes[order..sheet],
             &bytes[sheet..end],
         );
+        return;
     }
     run_on_sheet(
         rt,
@@ -328,9 +319,9 @@ fn run(
         &bytes[order..sheet],
         &bytes[sheet..end],
         space,
-    )?;
-    run_on_order(rt, case, &bytes[order..sheet])?;
-    run_on_map(rt, case, &mut bytes[0..order])
+    );
+    run_on_order(rt, case, &bytes[order..sheet]);
+    run_on_map(rt, case, &mut bytes[0..order]);
 }
 
 // Runs the case that starts at `at` of the first n bytes, and returns where the next one starts.
@@ -341,17 +332,17 @@ fn run_case(
     at: usize,
     space: &mut [u8],
     labels: &mut [u32],
-) -> io::Result<usize>
+) -> usize
     requires { (n ≤ length cases.old) × (at < n) }
-    ensures { IfOk result (λ next. at < next) }
+    ensures { at < result }
 {
     if n - at < 2 {
-        return Ok(n);
+        return n;
     }
     let title = at + 2;
     let header = title + count_of(cases[at + 1]);
     if n < header + HEADER_BYTES {
-        return Ok(n);
+        return n;
     }
     let case = Case {
         kind: cases[at],
@@ -363,10 +354,10 @@ fn run_case(
     let sheet = order + (words::word(cases, header + 12) as usize);
     let end = sheet + (words::word(cases, header + 16) as usize);
     if n < end {
-        return Ok(n);
+        return n;
     }
-    print(rt, &cases[title..header])?;
-    print(rt, b": ")?;
+    print(rt, &cases[title..header]);
+    print(rt, b": ");
     run(
         rt,
         case,
@@ -375,9 +366,9 @@ fn run_case(
         sheet - map,
         space,
         labels,
-    )?;
-    print(rt, b"\n")?;
-    Ok(end)
+    );
+    print(rt, b"\n");
+    end
 }
 
 // Reads until the space is full, the input ends or a read fails, and returns how many bytes there
@@ -402,21 +393,22 @@ fn run_all(
     cases: &mut [u8],
     space: &mut [u8],
     labels: &mut [u32],
-) -> io::Result<()> {
+) {
     let n = read_full(input, cases);
     if n == cases.len() {
-        return print(rt, b"too many cases\n");
+        print(rt, b"too many cases\n");
+        return;
     }
     let mut at = 0;
     while at < n {
-        at = run_case(rt, cases, n, at, space, labels)?;
+        at = run_case(rt, cases, n, at, space, labels);
     }
-    Ok(())
 }
 
 fn main(rt: HostRuntime) -> io::Result<()> {
     let mut cases = vec![in rt.alloc(); 0u8; CASE_BYTES]?;
     let mut sheet = [0u8; 1024];
     let mut labels = [0u32; 4096];
-    run_all(&rt, &mut rt.stdin(), &mut cases, &mut sheet, &mut labels)
+    run_all(&rt, &mut rt.stdin(), &mut cases, &mut sheet, &mut labels);
+    Ok(())
 }

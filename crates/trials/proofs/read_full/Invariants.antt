@@ -1,4 +1,4 @@
--- The space keeps its length, and each turn fills more of it. Assumes nothing.
+-- Each turn fills more of the space. Assumes nothing.
 use Rattle.std.proofs.Common.{◌-◌, ◌≤◌, length}
 use Rattle.trials.proofs.read_full.Given as goal
 
