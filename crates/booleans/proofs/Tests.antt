@@ -4,7 +4,6 @@ use mathlib.Core.Bool.{Bool, true, false, not, ◌&&◌, ◌||◌}
 use mathlib.Core.Logic.{◌⊎◌, inl, inr}
 use mathlib.Core.Option.{Option, none, some}
 use Prim.Native.Nat.{ℕ}
-use native.Mathlib.Omega.{arith}
 use lib.Dec.{T}
 
 -- Equations.
@@ -14,10 +13,10 @@ cases true = inl refl
 cases false = inr refl
 
 pub not_both : {b : Bool} → b ≡ true → b ≡ false → ⊥
-not_both {b} p q = let z : ◌≡◌ {A = ℕ} 0 1 = cc in omega arith
+not_both p q = cc
 
 pub some_not_none : {i : ℕ} → ◌≡◌ {A = Option ℕ} (some i) none → ⊥
-some_not_none p = let z : ◌≡◌ {A = ℕ} 0 1 = cc in omega arith
+some_not_none p = cc
 
 -- both of two tests pass
 pub and_true : {a b : Bool} → (a && b) ≡ true → (a ≡ true) × (b ≡ true)

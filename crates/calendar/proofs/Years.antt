@@ -8,6 +8,7 @@ use native.Mathlib.Nat.{eq-or-lt_of_le}
 use native.Mathlib.Omega.{arith}
 use borrow.Author.Tests.{leb-true, leb-false, eqb-true}
 use lib.Dec.{leb, eqb}
+use Rattle.std.proofs.Math.Bool.{or-false}
 use Rattle.booleans.proofs.Tests.{cases, or_cases}
 use Rattle.calendar.specs.Calendar.{days_before}
 use Rattle.calendar.specs.Easter.{easter_of}
@@ -106,10 +107,39 @@ module _ (k day : ℕ) (from : days_before k ≤ day) (to : day < days_before (s
   own_year zero few h = absurd (omega arith)
   own_year (suc n) few h =
       ⊎_elim
-      (λ (same : k ≡ n). rw (← same, none_before k (omega arith) (omega arith)) (alone (is_feast_of (easter_in k) day)))
+      (λ (same : k ≡ n). rw (← same, none_before k (omega arith) (omega arith)) (or-false (is_feast_of (easter_in k) day)))
       (λ (less : k < n). rw (other_year n (omega arith) (λ e. omega arith)) (own_year n (omega arith) less))
       (eq-or-lt_of_le (omega arith))
-    where
-      alone : (b : Bool) → (b || false) ≡ b
-      alone true = refl
-      alone false = refl
+
+-- the year of a day, after 2000
+abbrev years_of : ℕ → ℕ
+years_of day = 4 * day / 1461
+
+-- it begins no later than the day and ends after it
+pub record Year (day : ℕ) : Type 0 where
+  few : years_of day < 100
+  first : days_before (years_of day) ≡ (1461 * years_of day + 3) / 4
+  pub from : (1461 * years_of day + 3) / 4 ≤ day
+  to : day < days_before (suc (years_of day))
+  pub spring : InSpring (easter_of (2000 + years_of day))
+
+pub year : (day : ℕ) → day < 36525 → Year day
+year day h =
+    let few : years_of day < 100 = omega arith in
+    record {
+      few = few;
+      first = first_day (years_of day) (omega arith);
+      from = omega arith;
+      to = rw (first_day (suc (years_of day)) (omega arith)) (omega arith);
+      spring = easter_in_spring (years_of day) (omega arith);
+    }
+
+-- Easter of that year, by the table's entry
+pub easter_by : (day easter : ℕ) → day < 36525 → easter ≡ easter_of (2000 + years_of day) → (1461 * years_of day + 3) / 4 + easter - 1 ≡ easter_in (years_of day)
+easter_by day easter h e = let y = year day h in rw (y.first, e) refl
+
+-- a day is a feast of some year exactly when it is one of its own
+pub own_feast : (day : ℕ) → day < 36525 → is_feast_within easter_years day ≡ is_feast_of (easter_in (years_of day)) day
+own_feast day h =
+    let y = year day h in
+    own_year (years_of day) day (omega (arith, y.first, y.from)) y.to easter_years (omega arith) (omega (arith, y.few))

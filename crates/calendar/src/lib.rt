@@ -1,9 +1,9 @@
 // Ban days, with Easter by a table, and when a banned road may be entered.
 #![tactic(auto)]
 
-ghost use Rattle.std.specs.Prelude.{◌≡◌, ◌+◌, ◌≤◌, ◌<◌};
+ghost use Rattle.std.specs.Prelude.{◌≡◌, ◌+◌, ◌*◌, ◌/◌, ◌≤◌, ◌<◌};
 ghost use Rattle.calendar.specs.Easter.{easter_of};
-ghost use Rattle.calendar.specs.Gate.{is_feast_of, is_ban_day, gate_of};
+ghost use Rattle.calendar.specs.Gate.{easter_in, is_feast_of, is_ban_day, gate_of};
 
 use seconds::Clock;
 
@@ -25,52 +25,40 @@ fn is_feast(day: u32, easter: u32) -> bool
     requires { (day < 40000) × (easter < 40000) }
     ensures { result ≡ is_feast_of easter day }
 {
-    if day + 2 == easter {
-        return true;
-    }
-    if day == easter + 1 {
-        return true;
-    }
-    if day == easter + 39 {
-        return true;
-    }
-    day == easter + 50
+    day + 2 == easter || day == easter + 1 || day == easter + 39 || day == easter + 50
 }
 
-fn wide(x: u8) -> u32
-    ensures { result ≡ x }
+// The day that is Easter in the year of a day before 2100. Until then each fourth year is a leap year, and 2000 the
+// first.
+fn easter_in_year_of(day: u32) -> u32
+    requires { day < 36525 }
+    ensures is { result ≡ easter_in (4 * day / 1461) }
+    ensures soon { result ≤ day + 115 }
 {
-    x as u32
+    let years = 4 * day / 1461;
+    let first = (1461 * years + 3) / 4;
+    first + u32::from(easter(years as usize)) - 1
 }
 
-// Whether a day before 2100 is a ban day. Until then each fourth year is a leap year, and 2000 the first.
+// Whether a day before 2100 is a ban day.
 fn is_ban_day(day: u32) -> bool
     requires { day < 36525 }
     ensures { result ≡ is_ban_day day }
 {
-    if day % 7 == 1 {
-        return true;
-    }
-    let years = 4 * day / 1461;
-    let first = (1461 * years + 3) / 4;
-    let of_year = wide(easter(years as usize));
-    is_feast(day, first + of_year - 1)
+    day % 7 == 1 || is_feast(day, easter_in_year_of(day))
 }
 
-// When a lorry that comes at this clock may enter a banned road. The cheap tests come first.
+// When a lorry that comes at this clock may enter a banned road. The cheap test comes first.
 pub fn gate(clock: Clock) -> Clock
     requires { clock.0 ≤ 2000000000 }
     ensures { result.0 ≡ gate_of clock.0 }
 {
-    let moment = clock.0;
-    if OPENING_TIME <= moment % DAY_SECONDS {
-        return clock;
+    let day = clock.0 / DAY_SECONDS;
+    if clock.0 % DAY_SECONDS < OPENING_TIME && is_ban_day(day) {
+        Clock(DAY_SECONDS * day + OPENING_TIME)
+    } else {
+        clock
     }
-    let day = moment / DAY_SECONDS;
-    if is_ban_day(day) {
-        return Clock(DAY_SECONDS * day + OPENING_TIME);
-    }
-    clock
 }
 
 // Easter of each year from 2000 to 2299, as the day of the year from 1. Printed by tests/easter_table.py.

@@ -4,8 +4,10 @@
 #![tactic(auto)]
 
 ghost use Rattle.std.specs.Prelude.{◌≡◌};
-ghost use Rattle.roadmap.specs.Format.{first_road, next_road};
-ghost use Rattle.chains.specs.Reached.{JunctionOn, RoadOn};
+ghost use Rattle.roadmap.specs.Format.{HasSizes, first_road, next_road};
+ghost use Rattle.chains.specs.Reached.{counts_of, JunctionOn, RoadOn};
+
+use roadmap::RoadMap;
 
 #[derive(Clone, Copy)]
 pub struct ChainReader<'a> {
@@ -13,20 +15,29 @@ pub struct ChainReader<'a> {
     pub road: u32,
 }
 
+// The map with the counts of its header.
+fn counted<'a>(map: &'a [u8]) -> RoadMap<'a>
+    requires { HasSizes map.now (counts_of map.now) }
+    ensures { (result.bytes ≡ map.entry) × (result.sizes ≡ counts_of map.now) }
+{
+    RoadMap {
+        bytes: map,
+        sizes: roadmap::sizes_of(map),
+    }
+}
+
 fn first_on_chain(map: &[u8], j: u32) -> u32
     requires { JunctionOn map.now j }
     ensures { result ≡ first_road map.now j }
 {
-    let sizes = roadmap::sizes_of(map);
-    roadmap::first_road(map, sizes, j)
+    counted(map).first_road(j)
 }
 
 fn next_on_chain(map: &[u8], road: u32) -> u32
     requires { RoadOn map.now road }
     ensures { result ≡ next_road map.now road }
 {
-    let sizes = roadmap::sizes_of(map);
-    roadmap::next_road(map, sizes, road)
+    counted(map).next_road(road)
 }
 
 // The reader at junction j's first road, 0 where its chain is empty.

@@ -12,7 +12,7 @@ use Rattle.booleans.proofs.Tests.{cases, not_both, some_not_none, T_true, and_l,
 use Rattle.replies.specs.declared.Reply.{Reply}
 use Rattle.replies.specs.declared.Refusal.{Refusal}
 use Rattle.replies.specs.declared.Refusal.TheVariants.{ShortMap, StrangeMap, Oversize, Misfit, BadJunction, BadRoad, BrokenChain, BadLettering, BadOrder, BadRules, BadTrip, Full, NoRoad, ShortSheet, TornSheet, ForeignMove, Overrun, FalseFigure, Stray, UnknownName, TornTrace, OddRecord, PastLimit, UnknownRoad}
-use Rattle.replies.specs.declared.Check.{Check}
+use Rattle.std.specs.Prelude.{Result, Ok, Err}
 use Rattle.replies.specs.Told.{refused_at, succeeded, told_refusal, told_check}
 use Rattle.replies.specs.First.{Test, refused_or, first_of, lowest, NoneFits, Refuses, Tried}
 
@@ -176,9 +176,9 @@ refuses (t ∷ ts) why e rest success = at t.place refl (λ e. refuses ts why e 
     at (some place) is_some go = rw is_some (rw (is_some, refused_or) at e)
 
 -- an operation's answer says which refusals of its list fit
-pub tried : (ts : List Test) (answer : Check) → Numbered ts → told_check answer ≡ first_of ts (succeeded 0 0) → Tried ts answer
-tried ts Check.Passed from_1 e = none_fitted ts (succeeded 0 0) from_1 (sym (ap (λ (r : Reply). r.number) e))
-tried ts (Check.Refused why) from_1 e = refuses ts why (sym e)
+pub tried : (ts : List Test) (answer : Result (Unit {0}) Refusal) → Numbered ts → told_check answer ≡ first_of ts (succeeded 0 0) → Tried ts answer
+tried ts (Ok done) from_1 e = none_fitted ts (succeeded 0 0) from_1 (sym (ap (λ (r : Reply). r.number) e))
+tried ts (Err why) from_1 e = refuses ts why (sym e)
 
 -- the first refusal that fits is said
 pub stops_at : (t : Test) (ts : List Test) (success : Reply) {place : ℕ} → t.place ≡ some place → first_of (t ∷ ts) success ≡ refused_at t.number place

@@ -1,9 +1,8 @@
 -- The first refusal that fits, in an order that is a list. Assumes nothing.
-use Rattle.std.specs.Prelude.{ℕ, zero, suc, ◌+◌, Bool, true, false, ◌≡◌, List, [], ◌∷◌, ◌++◌}
+use Rattle.std.specs.Prelude.{Result, Ok, Err, ℕ, zero, suc, ◌+◌, Bool, true, false, ◌≡◌, List, [], ◌∷◌, ◌++◌}
 use Rattle.std.proofs.Math.Option.{Option, none, some}
 use Rattle.replies.specs.declared.Reply.{Reply}
 use Rattle.replies.specs.declared.Refusal.{Refusal}
-use Rattle.replies.specs.declared.Check.{Check}
 use Rattle.replies.specs.Told.{refused_at, told_refusal}
 
 -- a refusal's number, and its place where it fits
@@ -45,6 +44,6 @@ abbrev pub Refuses : List Test → Refusal → Type 0
 Refuses ts why = (rest : List Test) (success : Reply) → first_of (ts ++ rest) success ≡ told_refusal why
 
 -- what an answer says of a list that was tried
-abbrev pub Tried : List Test → Check → Type 0
-Tried ts Check.Passed = NoneFits ts
-Tried ts (Check.Refused why) = Refuses ts why
+abbrev pub Tried : List Test → Result (Unit {0}) Refusal → Type 0
+Tried ts (Ok done) = NoneFits ts
+Tried ts (Err why) = Refuses ts why

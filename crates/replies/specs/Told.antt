@@ -1,13 +1,10 @@
 -- What each answer tells: its number, its place and its arrival. Assumes nothing.
-use Rattle.std.specs.Prelude.{ℕ}
+use Rattle.std.specs.Prelude.{ℕ, Result, Ok, Err}
 use Rattle.replies.specs.declared.Reply.{Reply}
 use Rattle.replies.specs.declared.Refusal.{Refusal}
 use Rattle.replies.specs.declared.Refusal.TheVariants.{ShortMap, StrangeMap, Oversize, Misfit, BadJunction, BadRoad, BrokenChain, BadLettering, BadOrder, BadRules, BadTrip, Full, NoRoad, ShortSheet, TornSheet, ForeignMove, Overrun, FalseFigure, Stray, UnknownName, TornTrace, OddRecord, PastLimit, UnknownRoad}
-use Rattle.replies.specs.declared.Check.{Check}
-use Rattle.replies.specs.declared.NameReply.{NameReply}
-use Rattle.replies.specs.declared.Timing.{Timing}
-use Rattle.replies.specs.declared.Planning.{Planning}
-use Rattle.replies.specs.declared.Replaying.{Replaying}
+use Rattle.replies.specs.declared.Timed.{Timed}
+use Rattle.replies.specs.declared.Plan.{Plan}
 
 -- a success: number 0
 abbrev pub succeeded : ℕ → ℕ → Reply
@@ -43,27 +40,38 @@ told_refusal (OddRecord index) = refused_at 22 index
 told_refusal (PastLimit index) = refused_at 23 index
 told_refusal (UnknownRoad road) = refused_at 24 road
 
--- map checked, order accepted, map chained or road struck: 0, 0, 0
-abbrev pub told_check : Check → Reply
-told_check Check.Passed = succeeded 0 0
-told_check (Check.Refused why) = told_refusal why
+-- an answer: what its success tells, or the refusal
+abbrev pub told : {A : Type 0} → (A → Reply) → Result A Refusal → Reply
+told success (Ok done) = success done
+told success (Err why) = told_refusal why
 
--- named: 0, name length, 0
-abbrev pub told_name : NameReply → Reply
-told_name (NameReply.Named letters) = succeeded letters 0
-told_name (NameReply.Refused why) = told_refusal why
+-- map checked, order accepted, map chained or road struck: 0, 0, 0
+abbrev pub told_done : Unit {0} → Reply
+told_done done = succeeded 0 0
+
+-- named: 0, name length, 0; replayed: 0, records, 0
+abbrev pub told_count : ℕ → Reply
+told_count count = succeeded count 0
 
 -- retimed or audited: 0, M, arrival
-abbrev pub told_timing : Timing → Reply
-told_timing (Timing.Timed moves arrival) = succeeded moves arrival.0
-told_timing (Timing.Refused why) = told_refusal why
+abbrev pub told_timed : Timed → Reply
+told_timed timed = succeeded timed.moves timed.arrival.0
 
 -- planned: 0, N, arrival
-abbrev pub told_plan : Planning → Reply
-told_plan (Planning.Planned labels arrival) = succeeded labels arrival.0
-told_plan (Planning.Refused why) = told_refusal why
+abbrev pub told_planned : Plan → Reply
+told_planned planned = succeeded planned.labels planned.arrival.0
 
--- replayed: 0, records, 0
-abbrev pub told_replaying : Replaying → Reply
-told_replaying (Replaying.Replayed records) = succeeded records 0
-told_replaying (Replaying.Refused why) = told_refusal why
+abbrev pub told_check : Result (Unit {0}) Refusal → Reply
+told_check = told told_done
+
+abbrev pub told_name : Result ℕ Refusal → Reply
+told_name = told told_count
+
+abbrev pub told_timing : Result Timed Refusal → Reply
+told_timing = told told_timed
+
+abbrev pub told_plan : Result Plan Refusal → Reply
+told_plan = told told_planned
+
+abbrev pub told_replaying : Result ℕ Refusal → Reply
+told_replaying = told told_count

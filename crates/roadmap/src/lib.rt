@@ -1,8 +1,8 @@
-// The road map: its format, and the time that a road takes.
+// The road map: its format, its bytes with the counts that they fit, and the time that a road takes.
 #![tactic(auto)]
 
-ghost use Rattle.std.specs.Prelude.{◌≡◌, ◌+◌, ◌*◌, ◌≤◌, length};
-ghost use Rattle.roadmap.specs.Format.{HasSizes, map_header_bytes, format, junction_count, road_count, name_bytes, junction_word, road_word, junction_of, road_of, first_road, car_park, name_start, name_length, road_from, road_to, road_metres, road_speed, next_road};
+ghost use Rattle.std.specs.Prelude.{◌≡◌, ◌+◌, ◌*◌, ◌-◌, ◌≤◌, length};
+ghost use Rattle.roadmap.specs.Format.{HasSizes, map_header_bytes, junction_bytes, road_bytes, format, junction_count, road_count, name_bytes, junction_at, junction_word, road_word, junction_of, road_of, first_road, car_park, name_start, name_length, road_from, road_to, road_metres, road_speed, next_road};
 ghost use Rattle.roadmap.specs.RoadTime.{nearest, road_seconds, most_metres, most_speed};
 
 use words::word;
@@ -26,6 +26,33 @@ impl Sizes {
 
     // The length of an array with an entry for each junction of any map; entry 0 is no junction's.
     pub const JUNCTION_ENTRIES: usize = Sizes::MOST_JUNCTIONS as usize + 1;
+
+    // Where junction j stands: its first road. It is the same on every map.
+    pub fn junction_at(j: u32) -> usize
+        requires { 1 ≤ j }
+        ensures { result ≡ junction_at j }
+    {
+        Sizes::HEADER_BYTES + Junction::BYTES * (j as usize - 1)
+    }
+
+    // Where road r stands.
+    pub fn road_at(self, r: u32) -> usize
+        requires { 1 ≤ r }
+        ensures { result ≡ map_header_bytes + junction_bytes * self.junctions + road_bytes * (r - 1) }
+    {
+        Sizes::HEADER_BYTES
+            + Junction::BYTES * (self.junctions as usize)
+            + Road::BYTES * (r as usize - 1)
+    }
+
+    // Where the names stand.
+    pub fn names_at(self) -> usize
+        ensures { result ≡ map_header_bytes + junction_bytes * self.junctions + road_bytes * self.roads }
+    {
+        Sizes::HEADER_BYTES
+            + Junction::BYTES * (self.junctions as usize)
+            + Road::BYTES * (self.roads as usize)
+    }
 }
 
 // A junction's four words: its first road, whether it is a car park, where its name starts and how
@@ -62,6 +89,7 @@ impl Road {
     pub const MOST_SPEED: u32 = 130;
 }
 
+#[tactic(auto, unfolding(crate::specs::Format::format))]
 pub fn map_format(map: &[u8]) -> u32
     requires { map_header_bytes ≤ length map.now }
     ensures { result ≡ format map.now }
@@ -70,6 +98,7 @@ pub fn map_format(map: &[u8]) -> u32
 }
 
 // The header's counts, whatever they are.
+#[tactic(auto, unfolding(crate::specs::Format::junction_count, crate::specs::Format::road_count, crate::specs::Format::name_bytes))]
 pub fn sizes_of(map: &[u8]) -> Sizes
     requires { map_header_bytes ≤ length map.now }
     ensures { (result.junctions ≡ junction_count map.now) × (result.roads ≡ road_count map.now) × (result.names ≡ name_bytes map.now) }
@@ -81,129 +110,119 @@ pub fn sizes_of(map: &[u8]) -> Sizes
     }
 }
 
-// The word at an offset of junction j.
-fn junction_word(map: &[u8], sizes: Sizes, j: u32, offset: usize) -> u32
-    requires has_sizes { HasSizes map.now sizes }
-    requires le_j { (1 ≤ j) × (j ≤ sizes.junctions) × (offset ≤ 12) }
-    ensures { result ≡ junction_word map.now j offset }
-{
-    word(
-        map,
-        Sizes::HEADER_BYTES + Junction::BYTES * (j as usize - 1) + offset,
-    )
+// A map's bytes, and the counts that they fit.
+#[derive(Clone, Copy)]
+pub struct RoadMap<'a> {
+    pub bytes: &'a [u8],
+    pub sizes: Sizes,
+    pub ghost has_sizes: { HasSizes bytes.now sizes },
 }
 
-pub fn first_road(map: &[u8], sizes: Sizes, j: u32) -> u32
-    requires has_sizes { HasSizes map.now sizes }
-    requires le_j { (1 ≤ j) × (j ≤ sizes.junctions) }
-    ensures { result ≡ first_road map.now j }
-{
-    junction_word(map, sizes, j, 0)
-}
-
-pub fn car_park(map: &[u8], sizes: Sizes, j: u32) -> u32
-    requires has_sizes { HasSizes map.now sizes }
-    requires le_j { (1 ≤ j) × (j ≤ sizes.junctions) }
-    ensures { result ≡ car_park map.now j }
-{
-    junction_word(map, sizes, j, 4)
-}
-
-pub fn name_start(map: &[u8], sizes: Sizes, j: u32) -> u32
-    requires has_sizes { HasSizes map.now sizes }
-    requires le_j { (1 ≤ j) × (j ≤ sizes.junctions) }
-    ensures { result ≡ name_start map.now j }
-{
-    junction_word(map, sizes, j, 8)
-}
-
-pub fn name_length(map: &[u8], sizes: Sizes, j: u32) -> u32
-    requires has_sizes { HasSizes map.now sizes }
-    requires le_j { (1 ≤ j) × (j ≤ sizes.junctions) }
-    ensures { result ≡ name_length map.now j }
-{
-    junction_word(map, sizes, j, 12)
-}
-
-pub fn read_junction(map: &[u8], sizes: Sizes, j: u32) -> Junction
-    requires has_sizes { HasSizes map.now sizes }
-    requires le_j { (1 ≤ j) × (j ≤ sizes.junctions) }
-    ensures { result ≡ junction_of map.now j }
-{
-    Junction {
-        first: junction_word(map, sizes, j, 0),
-        parking: junction_word(map, sizes, j, 4),
-        start: junction_word(map, sizes, j, 8),
-        length: junction_word(map, sizes, j, 12),
+impl<'a> RoadMap<'a> {
+    // The word at an offset of junction j.
+    #[tactic(auto, unfolding(crate::specs::Format::junction_word))]
+    fn junction_word(&self, j: u32, offset: usize) -> u32
+        requires { (1 ≤ j) × (j ≤ self.now.sizes.junctions) × (offset ≤ 12) }
+        ensures { result ≡ junction_word self.now.bytes.now j offset }
+    {
+        word(self.bytes, Sizes::junction_at(j) + offset)
     }
-}
 
-// The word at an offset of road r.
-fn road_word(map: &[u8], sizes: Sizes, r: u32, offset: usize) -> u32
-    requires has_sizes { HasSizes map.now sizes }
-    requires le_r { (1 ≤ r) × (r ≤ sizes.roads) × (offset ≤ 16) }
-    ensures { result ≡ road_word map.now r offset }
-{
-    word(
-        map,
-        Sizes::HEADER_BYTES
-            + Junction::BYTES * (sizes.junctions as usize)
-            + Road::BYTES * (r as usize - 1)
-            + offset,
-    )
-}
+    pub fn first_road(&self, j: u32) -> u32
+        requires { (1 ≤ j) × (j ≤ self.now.sizes.junctions) }
+        ensures { result ≡ first_road self.now.bytes.now j }
+    {
+        self.junction_word(j, 0)
+    }
 
-pub fn road_from(map: &[u8], sizes: Sizes, r: u32) -> u32
-    requires has_sizes { HasSizes map.now sizes }
-    requires le_r { (1 ≤ r) × (r ≤ sizes.roads) }
-    ensures { result ≡ road_from map.now r }
-{
-    road_word(map, sizes, r, 0)
-}
+    pub fn car_park(&self, j: u32) -> u32
+        requires { (1 ≤ j) × (j ≤ self.now.sizes.junctions) }
+        ensures { result ≡ car_park self.now.bytes.now j }
+    {
+        self.junction_word(j, 4)
+    }
 
-pub fn road_to(map: &[u8], sizes: Sizes, r: u32) -> u32
-    requires has_sizes { HasSizes map.now sizes }
-    requires le_r { (1 ≤ r) × (r ≤ sizes.roads) }
-    ensures { result ≡ road_to map.now r }
-{
-    road_word(map, sizes, r, 4)
-}
+    pub fn name_start(&self, j: u32) -> u32
+        requires { (1 ≤ j) × (j ≤ self.now.sizes.junctions) }
+        ensures { result ≡ name_start self.now.bytes.now j }
+    {
+        self.junction_word(j, 8)
+    }
 
-pub fn road_metres(map: &[u8], sizes: Sizes, r: u32) -> u32
-    requires has_sizes { HasSizes map.now sizes }
-    requires le_r { (1 ≤ r) × (r ≤ sizes.roads) }
-    ensures { result ≡ road_metres map.now r }
-{
-    road_word(map, sizes, r, 8)
-}
+    pub fn name_length(&self, j: u32) -> u32
+        requires { (1 ≤ j) × (j ≤ self.now.sizes.junctions) }
+        ensures { result ≡ name_length self.now.bytes.now j }
+    {
+        self.junction_word(j, 12)
+    }
 
-pub fn road_speed(map: &[u8], sizes: Sizes, r: u32) -> u32
-    requires has_sizes { HasSizes map.now sizes }
-    requires le_r { (1 ≤ r) × (r ≤ sizes.roads) }
-    ensures { result ≡ road_speed map.now r }
-{
-    road_word(map, sizes, r, 12)
-}
+    pub fn junction(&self, j: u32) -> Junction
+        requires { (1 ≤ j) × (j ≤ self.now.sizes.junctions) }
+        ensures { result ≡ junction_of self.now.bytes.now j }
+    {
+        Junction {
+            first: self.first_road(j),
+            parking: self.car_park(j),
+            start: self.name_start(j),
+            length: self.name_length(j),
+        }
+    }
 
-pub fn next_road(map: &[u8], sizes: Sizes, r: u32) -> u32
-    requires has_sizes { HasSizes map.now sizes }
-    requires le_r { (1 ≤ r) × (r ≤ sizes.roads) }
-    ensures { result ≡ next_road map.now r }
-{
-    road_word(map, sizes, r, 16)
-}
+    // The word at an offset of road r.
+    #[tactic(auto, unfolding(crate::specs::Format::road_word))]
+    fn road_word(&self, r: u32, offset: usize) -> u32
+        requires { (1 ≤ r) × (r ≤ self.now.sizes.roads) × (offset ≤ 16) }
+        ensures { result ≡ road_word self.now.bytes.now r offset }
+    {
+        word(self.bytes, self.sizes.road_at(r) + offset)
+    }
 
-pub fn read_road(map: &[u8], sizes: Sizes, r: u32) -> Road
-    requires has_sizes { HasSizes map.now sizes }
-    requires le_r { (1 ≤ r) × (r ≤ sizes.roads) }
-    ensures { result ≡ road_of map.now r }
-{
-    Road {
-        from: road_word(map, sizes, r, 0),
-        to: road_word(map, sizes, r, 4),
-        metres: road_word(map, sizes, r, 8),
-        speed: road_word(map, sizes, r, 12),
-        next: road_word(map, sizes, r, 16),
+    pub fn road_from(&self, r: u32) -> u32
+        requires { (1 ≤ r) × (r ≤ self.now.sizes.roads) }
+        ensures { result ≡ road_from self.now.bytes.now r }
+    {
+        self.road_word(r, 0)
+    }
+
+    pub fn road_to(&self, r: u32) -> u32
+        requires { (1 ≤ r) × (r ≤ self.now.sizes.roads) }
+        ensures { result ≡ road_to self.now.bytes.now r }
+    {
+        self.road_word(r, 4)
+    }
+
+    pub fn road_metres(&self, r: u32) -> u32
+        requires { (1 ≤ r) × (r ≤ self.now.sizes.roads) }
+        ensures { result ≡ road_metres self.now.bytes.now r }
+    {
+        self.road_word(r, 8)
+    }
+
+    pub fn road_speed(&self, r: u32) -> u32
+        requires { (1 ≤ r) × (r ≤ self.now.sizes.roads) }
+        ensures { result ≡ road_speed self.now.bytes.now r }
+    {
+        self.road_word(r, 12)
+    }
+
+    pub fn next_road(&self, r: u32) -> u32
+        requires { (1 ≤ r) × (r ≤ self.now.sizes.roads) }
+        ensures { result ≡ next_road self.now.bytes.now r }
+    {
+        self.road_word(r, 16)
+    }
+
+    pub fn road(&self, r: u32) -> Road
+        requires { (1 ≤ r) × (r ≤ self.now.sizes.roads) }
+        ensures { result ≡ road_of self.now.bytes.now r }
+    {
+        Road {
+            from: self.road_from(r),
+            to: self.road_to(r),
+            metres: self.road_metres(r),
+            speed: self.road_speed(r),
+            next: self.next_road(r),
+        }
     }
 }
 

@@ -3,9 +3,9 @@
 #![tactic(auto)]
 
 // Clock time: a moment, or how long a pause takes.
-#[derive(Clone, Copy)]
+#[derive(Clone, Copy, PartialEq, Eq, PartialOrd, Ord)]
 pub struct Clock(pub u32);
 
 // Wheel time: how long the driver has been at the wheel, or may be.
-#[derive(Clone, Copy)]
+#[derive(Clone, Copy, PartialEq, Eq, PartialOrd, Ord)]
 pub struct Wheel(pub u32);

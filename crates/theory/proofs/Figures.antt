@@ -1,25 +1,22 @@
 -- Lists of figures: none above is a preorder and ranks no higher, and rank is a total order. Assumes nothing.
 use mathlib.Core.Path.{◌≡◌, ◌∙◌, refl, sym, ap₂}
-use mathlib.Core.Bool.{Bool, true, false, ◌&&◌, ◌||◌}
+use mathlib.Core.Bool.{◌&&◌}
 use mathlib.Core.List.{List, [], ◌∷◌, ◌++◌}
 use mathlib.Core.Logic.{◌⊎◌, inl, inr, ⊎_elim}
 use Prim.Native.Nat.{ℕ, zero, suc, ◌≤◌, ◌<◌}
 use native.Mathlib.Nat.{eq-or-lt_of_le}
 use native.Mathlib.Omega.{arith}
-use borrow.Author.Tests.{eq-eqb, ne_eqb, le-leb, lt-leb, le-ltb, leb-true, leb-false}
+use borrow.Author.Tests.{eq-eqb, ne_eqb, le-ltb}
 use lib.Dec.{T, leb, ltb, eqb, leb→le, le→leb, ltb→lt, lt→ltb, nltb→le, eqb→eq, eqb_refl}
 use lib.ListN.{length, get_or}
-use Rattle.booleans.proofs.Tests.{cases, T-cases, T_true, and_l, and_r, and_i, or_e, or_l}
+use Rattle.std.proofs.Math.Bool.{or-false}
+use Rattle.booleans.proofs.Tests.{T-cases, and_l, and_r, and_i, or_e, or_l}
 use Rattle.theory.specs.Figures.{none_above, same_each, lexicographic}
 
 -- No figure, one figure and then the others.
 pub above_end : T (none_above [] [])
 unfolding none_above
 above_end = tt
-
-and_last : (t : Bool) → (t && true) ≡ t
-and_last true = refl
-and_last false = refl
 
 module _ (x y : ℕ) (xs ys : List ℕ) where
   pub above_head : T (none_above (x ∷ xs) (y ∷ ys)) → x ≤ y
@@ -34,30 +31,10 @@ module _ (x y : ℕ) (xs ys : List ℕ) where
   unfolding none_above
   above_more h t = and_i (leb x y) (none_above xs ys) (le→leb x y h) t
 
-  -- as tests: a figure above decides, and of one that is not the others do
-  pub above_over : y < x → none_above (x ∷ xs) (y ∷ ys) ≡ false
-  unfolding none_above
-  above_over h = rw (lt-leb x y h)
-
-  pub above_within : x ≤ y → none_above (x ∷ xs) (y ∷ ys) ≡ none_above xs ys
-  unfolding none_above
-  above_within h = rw (le-leb x y h)
-
-  pub each_other : (x ≡ y → ⊥) → same_each (x ∷ xs) (y ∷ ys) ≡ false
-  unfolding same_each
-  each_other other = rw (ne_eqb x y other)
-
-  pub each_same : x ≡ y → same_each (x ∷ xs) (y ∷ ys) ≡ same_each xs ys
-  unfolding same_each
-  each_same same = rw (eq-eqb x y same)
-
+  -- as tests: a figure that differs decides
   pub rank_other : (x ≡ y → ⊥) → lexicographic (x ∷ xs) (y ∷ ys) ≡ ltb x y
   unfolding lexicographic
-  rank_other other = rw (ne_eqb x y other) (or_none (ltb x y))
-    where
-      or_none : (x : Bool) → (x || false) ≡ x
-      or_none true = refl
-      or_none false = refl
+  rank_other other = rw (ne_eqb x y other) (or-false (ltb x y))
 
   pub rank_same : x ≡ y → lexicographic (x ∷ xs) (y ∷ ys) ≡ lexicographic xs ys
   unfolding lexicographic
@@ -82,26 +59,6 @@ module _ (x y : ℕ) (xs ys : List ℕ) where
   -- what ranks no higher has no higher first figure
   pub rank_head : T (lexicographic (x ∷ xs) (y ∷ ys)) → x ≤ y
   rank_head t = ⊎_elim (λ (h : x < y). omega arith) (λ (h : (x ≡ y) × T (lexicographic xs ys)). omega arith) (rank_from t)
-
--- of last figures alone
-pub above_last : (x y : ℕ) → none_above (x ∷ []) (y ∷ []) ≡ leb x y
-unfolding none_above
-above_last x y = and_last (leb x y)
-
-pub each_last : (x y : ℕ) → same_each (x ∷ []) (y ∷ []) ≡ eqb x y
-unfolding same_each
-each_last x y = and_last (eqb x y)
-
-pub rank_last : (x y : ℕ) → lexicographic (x ∷ []) (y ∷ []) ≡ leb x y
-unfolding lexicographic
-rank_last x y =
-    ⊎_elim
-    (λ (e : leb x y ≡ true). T_true (at_most (leb-true x y e)) ∙ sym e)
-    (λ (e : leb x y ≡ false). let more = leb-false x y e in rw (le-ltb x y (omega arith), ne_eqb x y (λ e. omega arith)) (sym e))
-    (cases (leb x y))
-  where
-    at_most : x ≤ y → T (lexicographic (x ∷ []) (y ∷ []))
-    at_most h = ⊎_elim (λ (e : x ≡ y). rank_next x y [] [] e tt) (λ (l : x < y). rank_below x y [] [] l) (eq-or-lt_of_le h)
 
 -- None above is a preorder, carries over to lists put behind each other, to their first parts and to each place, and ranks no higher.
 pub above_self : (xs : List ℕ) → T (none_above xs xs)
