@@ -1,6 +1,6 @@
 -- The laws of the order check and of the driver's figures that callers cite.
 pub mod Accepted
 pub mod Hours
-pub mod Broken
 pub mod Lowest
-pub mod Then
+pub mod Broken
+pub mod Clocks

@@ -1,5 +1,5 @@
 pub mod Order
 pub mod Hours
+pub mod Pauses
 pub mod Accepted
 pub mod Compared
-pub mod Steps

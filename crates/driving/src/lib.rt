@@ -1,15 +1,15 @@
 // The driver's rules and figures, the order, and the order check: refusals 9 to 11.
 #![tactic(auto)]
 
-ghost use Rattle.std.specs.Prelude.{◌≡◌, [], ◌∷◌, ◌≤◌, T, length};
+ghost use Rattle.std.specs.Prelude.{OnOk, IfErr, true, false, ◌≡◌, [], ◌∷◌, ◌≤◌, T, length};
 ghost use Rattle.theory.specs.Figures.{none_above};
 ghost use Rattle.replies.specs.Told.{succeeded, told_check};
 ghost use Rattle.replies.specs.First.{◌at◌, first_of};
-ghost use Rattle.driving.specs.Steps.{first_refused, ruled_by};
+ghost use Rattle.driving.specs.Pauses.{pause_number, PauseNumbered};
 ghost use Rattle.driving.specs.Order.{european_rules, order_bytes, order_of, part_taken, bad_rules, bad_ends, bad_figures, bad_trip, order_tests};
 ghost use Rattle.driving.specs.Hours.{wheel_figures, highest_limits, unmarked, driven_on, first_pause, last_pause, has_split, pause_seconds, allows_pause, cleared};
 
-use replies::{Check, Refusal};
+use replies::Refusal;
 use seconds::{Clock, Wheel};
 
 // How long the driver may be at the wheel, and how long the pauses are that allow more.
@@ -44,21 +44,6 @@ impl Rules {
 
     pub const EUROPEAN_WEEKLY_REST: Clock = Clock(162000);
 
-    // The kinds of pause, as moves number them.
-    pub const BREAK: u32 = 2;
-
-    pub const REST: u32 = 3;
-
-    pub const FIRST_PART: u32 = 4;
-
-    pub const SECOND_PART: u32 = 5;
-
-    pub const WEEKLY_REST: u32 = 6;
-
-    pub const FIRST_PAUSE: u32 = Rules::BREAK;
-
-    pub const LAST_PAUSE: u32 = Rules::WEEKLY_REST;
-
     pub fn european() -> Rules
         ensures { result ≡ european_rules }
     {
@@ -77,7 +62,7 @@ impl Rules {
 
 // Wheel time since the last pause that cleared it, since the last rest and since the last weekly rest; whether a first part
 // waits for its second.
-#[derive(Clone, Copy)]
+#[derive(Clone, Copy, PartialEq, Eq)]
 pub struct Figures {
     pub spell: Wheel,
     pub shift: Wheel,
@@ -85,11 +70,65 @@ pub struct Figures {
     pub marked: bool,
 }
 
+// The kinds of pause, with their numbers as kinds of a move.
+#[derive(Clone, Copy, PartialEq, Eq)]
+pub enum Pause {
+    Break = 2,
+    Rest = 3,
+    FirstPart = 4,
+    SecondPart = 5,
+    WeeklyRest = 6,
+}
+
+// A number that is no kind of pause.
+#[derive(Clone, Copy, PartialEq, Eq)]
+pub struct NoPause(pub u32);
+
+impl Pause {
+    // The lowest number and the highest.
+    pub const FIRST: u32 = Pause::Break as u32;
+
+    pub const LAST: u32 = Pause::WeeklyRest as u32;
+
+    pub fn number(self) -> u32
+        ensures { result ≡ pause_number self }
+    {
+        self as u32
+    }
+
+    // The kind of pause of this number.
+    pub fn numbered(number: u32) -> Pause
+        requires { (first_pause ≤ number) × (number ≤ last_pause) }
+        ensures { pause_number result ≡ number }
+    {
+        match number {
+            2 => Pause::Break,
+            3 => Pause::Rest,
+            4 => Pause::FirstPart,
+            5 => Pause::SecondPart,
+            _ => Pause::WeeklyRest,
+        }
+    }
+}
+
+impl TryFrom<u32> for Pause {
+    type Error = NoPause;
+
+    ghost try_from_gives = { PauseNumbered };
+
+    fn try_from(number: u32) -> Result<Pause, NoPause> {
+        if number < Pause::FIRST || Pause::LAST < number {
+            return Err(NoPause(number));
+        }
+        Ok(Pause::numbered(number))
+    }
+}
+
 // The mark as a figure, of which the lower one is better.
 pub fn unmarked(figures: Figures) -> u32
     ensures { result ≡ unmarked figures }
 {
-    if figures.marked { 0 } else { 1 }
+    u32::from(!figures.marked)
 }
 
 // The figures after driving on: one road time is added to spell, shift and week, and the mark stays.
@@ -101,7 +140,7 @@ pub fn driven(figures: Figures, seconds: u32) -> Figures
         spell: Wheel(figures.spell.0 + seconds),
         shift: Wheel(figures.shift.0 + seconds),
         week: Wheel(figures.week.0 + seconds),
-        marked: figures.marked,
+        ..figures
     }
 }
 
@@ -109,90 +148,62 @@ pub fn driven(figures: Figures, seconds: u32) -> Figures
 pub fn has_split(rules: Rules) -> bool
     ensures { result ≡ has_split rules }
 {
-    if rules.first_part.0 != 0 {
-        return true;
-    }
-    rules.second_part.0 != 0
+    rules.first_part.0 != 0 || rules.second_part.0 != 0
 }
 
 // How long a pause of this kind takes.
-pub fn pause_time(rules: Rules, kind: u32) -> Clock
-    requires { (first_pause ≤ kind) × (kind ≤ last_pause) }
-    ensures { result.0 ≡ pause_seconds rules kind }
+pub fn pause_time(rules: Rules, pause: Pause) -> Clock
+    ensures { result.0 ≡ pause_seconds rules (pause_number pause) }
 {
-    if kind == Rules::BREAK {
-        return rules.break_time;
+    match pause {
+        Pause::Break => rules.break_time,
+        Pause::Rest => rules.rest_time,
+        Pause::FirstPart => rules.first_part,
+        Pause::SecondPart => rules.second_part,
+        Pause::WeeklyRest => rules.weekly_rest,
     }
-    if kind == Rules::REST {
-        return rules.rest_time;
-    }
-    if kind == Rules::FIRST_PART {
-        return rules.first_part;
-    }
-    if kind == Rules::SECOND_PART {
-        return rules.second_part;
-    }
-    rules.weekly_rest
 }
 
 // Whether the rules have a pause of this kind for these figures: a second part needs the mark.
-pub fn allows_pause(rules: Rules, figures: Figures, kind: u32) -> bool
-    requires { (first_pause ≤ kind) × (kind ≤ last_pause) }
-    ensures { result ≡ allows_pause rules figures kind }
+pub fn allows_pause(rules: Rules, figures: Figures, pause: Pause) -> bool
+    ensures { result ≡ allows_pause rules figures (pause_number pause) }
 {
-    if kind < Rules::FIRST_PART {
-        return true;
+    match pause {
+        Pause::Break | Pause::Rest | Pause::WeeklyRest => true,
+        Pause::FirstPart => has_split(rules),
+        Pause::SecondPart => has_split(rules) && figures.marked,
     }
-    if kind > Rules::SECOND_PART {
-        return true;
-    }
-    if !has_split(rules) {
-        return false;
-    }
-    if kind == Rules::FIRST_PART {
-        return true;
-    }
-    figures.marked
 }
 
 // The figures after a pause of this kind: each but a first part clears spell and the mark, a rest clears shift too, and a
 // weekly rest everything.
-pub fn cleared(figures: Figures, kind: u32) -> Figures
-    requires { (first_pause ≤ kind) × (kind ≤ last_pause) }
-    ensures { result ≡ cleared kind figures }
+pub fn cleared(figures: Figures, pause: Pause) -> Figures
+    ensures { result ≡ cleared (pause_number pause) figures }
 {
-    let spell = figures.spell;
-    let shift = figures.shift;
-    let week = figures.week;
-    if kind == Rules::REST {
-        return Figures {
-            spell: Wheel(0),
-            shift: Wheel(0),
-            week,
-            marked: false,
-        };
-    }
-    if kind == Rules::FIRST_PART {
-        return Figures {
+    let spell = Wheel(0);
+    let marked = false;
+    match pause {
+        Pause::Break | Pause::SecondPart => Figures {
             spell,
-            shift,
-            week,
+            marked,
+            ..figures
+        },
+        Pause::Rest => Figures {
+            spell,
+            shift: Wheel(0),
+            marked,
+            ..figures
+        },
+        Pause::FirstPart => Figures {
             marked: true,
-        };
-    }
-    if kind == Rules::WEEKLY_REST {
-        return Figures {
-            spell: Wheel(0),
+            ..figures
+        },
+        Pause::WeeklyRest => Figures {
+            spell,
             shift: Wheel(0),
             week: Wheel(0),
-            marked: false,
-        };
-    }
-    Figures {
-        spell: Wheel(0),
-        shift,
-        week,
-        marked: false,
+            marked,
+        },
     }
 }
 
@@ -254,121 +265,95 @@ pub fn read_order(bytes: &[u8]) -> Order
     }
 }
 
-// The first check's refusal, or else what the next one says.
-fn first_refused(first: Check, next: Check) -> Check
-    ensures { result ≡ first_refused first next }
+// A rule that is kept, or its refusal: each rule is one ≤ sign, with the word that it is charged to.
+fn ruled(kept: bool, why: Refusal) -> Result<(), Refusal>
+    ensures kept { OnOk result (kept ≡ true) }
+    ensures broken { IfErr result (λ told. (kept ≡ false) × (told ≡ why)) }
 {
-    match first {
-        Check::Passed => next,
-        Check::Refused(why) => Check::Refused(why),
-    }
-}
-
-// The check so far, and one rule more: each rule is one ≤ sign, with the word that it is charged to.
-fn ruled(before: Check, kept: bool, why: Refusal) -> Check
-    ensures { result ≡ ruled_by before kept why }
-{
-    if kept {
-        before
-    } else {
-        first_refused(before, Check::Refused(why))
-    }
+    if kept { Ok(()) } else { Err(why) }
 }
 
 // With a split a part takes time.
-fn part_taken(rules: Rules, part: u32) -> bool
-    ensures { result ≡ part_taken rules part }
+fn part_taken(rules: Rules, part: Clock) -> bool
+    ensures { result ≡ part_taken rules part.0 }
 {
-    if has_split(rules) {
-        return 1 <= part;
-    }
-    true
+    !has_split(rules) || Clock(1) <= part
 }
 
 // The rules alone: words 6 to 13 of an order, or rules that stand in none.
-pub fn check_rules(rules: Rules) -> Check
+#[tactic(auto, using(crate::proofs::Clocks::at_most), unfolding(crate::specs::Order::bad_rules, crate::specs::Order::first_broken, replies::specs::First::first_of))]
+pub fn check_rules(rules: Rules) -> Result<(), Refusal>
     ensures { told_check result ≡ first_of ((10 at bad_rules rules) ∷ []) (succeeded 0 0) }
 {
-    let spell_limit = rules.spell_limit.0;
-    let break_time = rules.break_time.0;
-    let shift_limit = rules.shift_limit.0;
-    let rest_time = rules.rest_time.0;
-    let first = rules.first_part.0;
-    let second = rules.second_part.0;
-    let week_limit = rules.week_limit.0;
-    let weekly_rest = rules.weekly_rest.0;
-    let first_taken = part_taken(rules, first);
-    let second_taken = part_taken(rules, second);
-    let check = ruled(Check::Passed, 1 <= spell_limit, Refusal::BadRules(6));
-    let check = ruled(check, 1 <= break_time, Refusal::BadRules(7));
-    let check = ruled(check, spell_limit <= shift_limit, Refusal::BadRules(8));
-    let check = ruled(check, shift_limit <= 1000000, Refusal::BadRules(8));
-    let check = ruled(check, break_time <= rest_time, Refusal::BadRules(9));
-    let check = ruled(check, rest_time <= 1000000, Refusal::BadRules(9));
-    let check = ruled(check, first_taken, Refusal::BadRules(10));
-    let check = ruled(check, first <= break_time, Refusal::BadRules(10));
-    let check = ruled(check, second_taken, Refusal::BadRules(11));
-    let check = ruled(check, second <= break_time, Refusal::BadRules(11));
-    let check = ruled(check, shift_limit <= week_limit, Refusal::BadRules(12));
-    let check = ruled(check, week_limit <= 1000000, Refusal::BadRules(12));
-    let check = ruled(check, rest_time <= weekly_rest, Refusal::BadRules(13));
-    ruled(check, weekly_rest <= 1000000, Refusal::BadRules(13))
+    let Rules {
+        spell_limit,
+        break_time,
+        shift_limit,
+        rest_time,
+        first_part,
+        second_part,
+        week_limit,
+        weekly_rest,
+    } = rules;
+    ruled(Wheel(1) <= spell_limit, Refusal::BadRules(6))?;
+    ruled(Clock(1) <= break_time, Refusal::BadRules(7))?;
+    ruled(spell_limit <= shift_limit, Refusal::BadRules(8))?;
+    ruled(shift_limit <= Wheel(1000000), Refusal::BadRules(8))?;
+    ruled(break_time <= rest_time, Refusal::BadRules(9))?;
+    ruled(rest_time <= Clock(1000000), Refusal::BadRules(9))?;
+    ruled(part_taken(rules, first_part), Refusal::BadRules(10))?;
+    ruled(first_part <= break_time, Refusal::BadRules(10))?;
+    ruled(part_taken(rules, second_part), Refusal::BadRules(11))?;
+    ruled(second_part <= break_time, Refusal::BadRules(11))?;
+    ruled(shift_limit <= week_limit, Refusal::BadRules(12))?;
+    ruled(week_limit <= Wheel(1000000), Refusal::BadRules(12))?;
+    ruled(rest_time <= weekly_rest, Refusal::BadRules(13))?;
+    ruled(weekly_rest <= Clock(1000000), Refusal::BadRules(13))
 }
 
 // The trip's ends, words 0 to 3 of an order, on a map of so many junctions.
-fn check_ends(order: Order, junctions: u32) -> Check
+#[tactic(auto, unfolding(crate::specs::Order::bad_ends, crate::specs::Order::first_broken, replies::specs::First::first_of))]
+fn check_ends(order: Order, junctions: u32) -> Result<(), Refusal>
     ensures { told_check result ≡ first_of ((11 at bad_ends junctions order) ∷ []) (succeeded 0 0) }
 {
-    let source = order.source;
-    let target = order.target;
-    let departure = order.departure.0;
-    let latest = order.latest.0;
-    let check = ruled(Check::Passed, 1 <= source, Refusal::BadTrip(0));
-    let check = ruled(check, source <= junctions, Refusal::BadTrip(0));
-    let check = ruled(check, 1 <= target, Refusal::BadTrip(1));
-    let check = ruled(check, target <= junctions, Refusal::BadTrip(1));
-    let check = ruled(check, departure <= latest, Refusal::BadTrip(3));
-    ruled(check, latest <= 2000000000, Refusal::BadTrip(3))
+    ruled(1 <= order.source, Refusal::BadTrip(0))?;
+    ruled(order.source <= junctions, Refusal::BadTrip(0))?;
+    ruled(1 <= order.target, Refusal::BadTrip(1))?;
+    ruled(order.target <= junctions, Refusal::BadTrip(1))?;
+    ruled(order.departure <= order.latest, Refusal::BadTrip(3))?;
+    ruled(order.latest <= Clock(2000000000), Refusal::BadTrip(3))
 }
 
 // Starting figures against rules: words 4, 5 and 14 of an order, or figures that stand in none.
-pub fn check_figures(figures: Figures, rules: Rules) -> Check
+#[tactic(auto, unfolding(crate::specs::Order::bad_figures, crate::specs::Order::first_broken, replies::specs::First::first_of))]
+pub fn check_figures(figures: Figures, rules: Rules) -> Result<(), Refusal>
     ensures { told_check result ≡ first_of ((11 at bad_figures figures rules) ∷ []) (succeeded 0 0) }
 {
-    let spell = figures.spell.0;
-    let shift = figures.shift.0;
-    let week = figures.week.0;
-    let spell_limit = rules.spell_limit.0;
-    let shift_limit = rules.shift_limit.0;
-    let week_limit = rules.week_limit.0;
-    let check = ruled(Check::Passed, spell <= spell_limit, Refusal::BadTrip(4));
-    let check = ruled(check, spell <= shift, Refusal::BadTrip(5));
-    let check = ruled(check, shift <= shift_limit, Refusal::BadTrip(5));
-    let check = ruled(check, shift <= week, Refusal::BadTrip(14));
-    ruled(check, week <= week_limit, Refusal::BadTrip(14))
+    ruled(figures.spell <= rules.spell_limit, Refusal::BadTrip(4))?;
+    ruled(figures.spell <= figures.shift, Refusal::BadTrip(5))?;
+    ruled(figures.shift <= rules.shift_limit, Refusal::BadTrip(5))?;
+    ruled(figures.shift <= figures.week, Refusal::BadTrip(14))?;
+    ruled(figures.week <= rules.week_limit, Refusal::BadTrip(14))
 }
 
 // The trip: words 0 to 5, then 14.
-pub fn check_trip(order: Order, junctions: u32) -> Check
+#[tactic(auto, using(crate::proofs::Broken::trip_parts, replies::proofs::First::refusal_number), unfolding(replies::specs::First::first_of))]
+pub fn check_trip(order: Order, junctions: u32) -> Result<(), Refusal>
     ensures { told_check result ≡ first_of ((11 at bad_trip junctions order) ∷ []) (succeeded 0 0) }
 {
-    let figures = order.figures;
-    let rules = order.rules;
-    let ends_check = check_ends(order, junctions);
-    let figures_check = check_figures(figures, rules);
-    first_refused(ends_check, figures_check)
+    check_ends(order, junctions)?;
+    check_figures(order.figures, order.rules)
 }
 
 // The order check, on a map of so many junctions.
-pub fn check_order(bytes: &[u8], junctions: u32) -> Check
+#[tactic(auto, using(replies::proofs::First::refusal_number), unfolding(replies::specs::First::first_of))]
+pub fn check_order(bytes: &[u8], junctions: u32) -> Result<(), Refusal>
     ensures { told_check result ≡ first_of (order_tests junctions bytes.now) (succeeded 0 0) }
 {
     if bytes.len() != Order::BYTES {
-        return Check::Refused(Refusal::BadOrder(bytes.len()));
+        return Err(Refusal::BadOrder(bytes.len()));
     }
     let order = read_order(bytes);
-    let rules = order.rules;
-    let rules_check = check_rules(rules);
-    let trip_check = check_trip(order, junctions);
-    first_refused(rules_check, trip_check)
+    check_rules(order.rules)?;
+    check_trip(order, junctions)
 }

@@ -62,17 +62,6 @@ noted from j v D =
     (cases (eqb v 0))
 
 module _ (first next from : ℕ → ℕ) (J R : ℕ) where
-  -- before the first chain is begun nothing is due
-  pub due_none : (due : List ℕ) → Due first next from J R due 1 1 (R + 1)
-  due_none due =
-      record {
-        rest = λ j low high. absurd (omega arith);
-        above = omega arith;
-        most = omega arith;
-        foreign = λ road. absurd (omega arith);
-        noticed = λ j low high. absurd (omega arith);
-      }
-
   -- road v falls due on j's chain, and the other chains stay
   falls_due : (due : List ℕ) (b r D j v : ℕ) → 1 ≤ j → j ≤ J → j < length due → Rest next R r (first j) v
       → ((i : ℕ) → 1 ≤ i → i < b → (i ≡ j → ⊥) → Rest next R r (first i) (get_or due i 0)) → r ≤ D → D ≤ R + 1
@@ -105,11 +94,12 @@ module _ (first next from : ℕ → ℕ) (J R : ℕ) where
       said : Noted from j v D (note from j v D)
       said = noted from j v D
 
-  -- the chain of the next junction is begun
-  pub due_first : (due : List ℕ) (b D : ℕ) → Links first next from J R → Due first next from J R due b 1 D → 1 ≤ b → b ≤ J → b < length due
-      → Due first next from J R (set due b (first b)) (b + 1) 1 (note from b (first b) D)
-  due_first due b D links before low high fits =
-      falls_due due (b + 1) 1 D b (first b) low high fits
+  -- the chain of junction b is begun: its first road v falls due
+  pub due_first : {due : List ℕ} {b c D v n : ℕ} → Links first next from J R → Due first next from J R due b 1 D → 1 ≤ b → b ≤ J → b < length due
+      → c ≡ b + 1 → v ≡ first b → n ≡ note from b v D → Due first next from J R (set due b v) c 1 n
+  due_first {due} {b} {D = D} links before low high fits next-b is-first least =
+      rw (least, is-first, next-b)
+      (falls_due due (b + 1) 1 D b (first b) low high fits
       (record {
         within = links.firsts b low high;
         ahead = λ road. road;
@@ -117,14 +107,15 @@ module _ (first next from : ℕ → ℕ) (J R : ℕ) where
         of_chain = λ v l on. on;
       })
       (λ i l h other. before.rest i l (omega arith)) before.above before.most before.foreign
-      (λ i l h other. before.noticed i l (omega arith))
+      (λ i l h other. before.noticed i l (omega arith)))
 
-  -- a road that is due on its own chain, and noticed on no other, is passed
-  pub due_next : (due : List ℕ) (r D : ℕ) → Links first next from J R → Due first next from J R due (J + 1) r D → 1 ≤ r → r ≤ R
-      → J < length due → (r ≡ D → ⊥) → get_or due (from r) 0 ≡ r
-      → Due first next from J R (set due (from r) (next r)) (J + 1) (r + 1) (note from (from r) (next r) D)
-  due_next due r D links before low high fits unseen own =
-      falls_due due (J + 1) (r + 1) D (from r) (next r) from_low from_high (omega (arith, from_high))
+  -- a road that is due on the chain of its from-junction j, and noticed on no other, is passed: the next road v falls due
+  pub due_next : {due : List ℕ} {r D j v n : ℕ} → Links first next from J R → Due first next from J R due (J + 1) r D → 1 ≤ r → r ≤ R
+      → J < length due → (r ≡ D → ⊥) → j ≡ from r → get_or due j 0 ≡ r → v ≡ next r → n ≡ note from j v D
+      → Due first next from J R (set due j v) (J + 1) (r + 1) n
+  due_next {due} {r} {D} links before low high fits unseen is-from due-there is-next least =
+      rw (least, is-next, is-from)
+      (falls_due due (J + 1) (r + 1) D (from r) (next r) from_low from_high (omega (arith, from_high))
       (record {
         within = links.rising.within r low high;
         ahead = λ road. omega (arith, links.rising.rises r low high road);
@@ -132,8 +123,11 @@ module _ (first next from : ℕ → ℕ) (J R : ℕ) where
         of_chain = λ v l on. mine.of_chain v (omega arith) (rw own (later low on));
       })
       (λ i l h other. passed i l h other) (omega (arith, before.above)) before.most before.foreign
-      (λ i l h other. before.noticed i l h)
+      (λ i l h other. before.noticed i l h))
     where
+      own : get_or due (from r) 0 ≡ r
+      own = rw is-from at due-there
+
       from_low : 1 ≤ from r
       from_low = links.from_low r low high
 

@@ -1,25 +1,23 @@
 -- Words of letters in the map: what the test of words says of the bytes. Assumes nothing.
-use mathlib.Core.Path.{◌≡◌, ◌∙◌, refl}
+use mathlib.Core.Path.{◌≡◌, ◌∙◌, refl, sym, ap}
 use mathlib.Core.Bool.{Bool, true, false, ◌||◌}
-use mathlib.Core.List.{List}
+use mathlib.Core.List.{List, ◌++◌}
 use mathlib.Core.Logic.{⊎_elim}
 use Prim.Native.Nat.{ℕ, zero, suc, ◌+◌, ◌*◌, ◌-◌, ◌/◌, ◌%◌, ◌≤◌, ◌<◌}
 use native.Mathlib.Omega.{arith}
 use native.Mathlib.Nat.{add_assoc, eq-or-lt_of_le}
 use borrow.Author.Tests.{ltb-true, ltb-false}
 use lib.Dec.{ltb}
-use lib.ListN.{length, get_or}
+use lib.ListN.{length, get_or, drop}
+use Rattle.std.proofs.Math.ListN.{get_or-append}
+use Rattle.std.proofs.Math.Seq.{drop-append_seam}
+use Rattle.std.proofs.lemmas.List.{get_or-drop, drop-drop, length-append, length-drop}
 use Rattle.booleans.proofs.Tests.{cases, or_false}
 use Rattle.replies.specs.First.{lowest}
 use Rattle.replies.proofs.First.{NoneBelow, lowest_past}
 use Rattle.words.specs.Word.{word_at}
 use Rattle.mapcheck.specs.MapCheck.{outside, bad_letter_at}
 use Rattle.mapcheck.specs.Lettered.{bad_bytes, bad_word, Lettered}
-
--- a test twice
-pub or_same : (a : Bool) → (a || a) ≡ a
-or_same true = refl
-or_same false = refl
 
 -- four tests, and what follows them
 or_all : (a b c d e : Bool) → (a || (b || (c || (d || e)))) ≡ ((a || (b || (c || (d || false)))) || e)
@@ -82,10 +80,6 @@ module _ (map : List ℕ) (are_bytes : (i : ℕ) → get_or map i 0 < 256) where
   past_word i inside read letters =
       record { low = omega arith; high = inside; letters = spelt_letters 4 i (rw (read ∙ word_spelt i) at letters) }
 
--- no byte is passed
-pub past_none : (map : List ℕ) (from : ℕ) → from ≤ length map → Lettered map from from
-past_none map from inside = record { low = omega arith; high = inside; letters = λ i low high. absurd (omega arith) }
-
 -- one stretch after the other
 pub past_both : {map : List ℕ} {from middle to : ℕ} → Lettered map from middle → Lettered map middle to → Lettered map from to
 past_both {map} {from} {middle} {to} first second =
@@ -98,6 +92,30 @@ past_both {map} {from} {middle} {to} first second =
           (λ (after : ltb i middle ≡ false). second.letters i (ltb-false i middle after) high)
           (cases (ltb i middle));
     }
+
+-- a pair of words, with the rest of the map behind it
+module _ (map pair rest : List ℕ) (at : ℕ) (cut : drop at map ≡ pair ++ rest) (size : length pair ≡ 8) where
+  byte_within : (k : ℕ) → k < 8 → get_or pair k 0 ≡ get_or map (at + k) 0
+  byte_within k low = sym (get_or-append pair rest 0 k (omega arith)) ∙ rw (← cut) (get_or-drop at map k 0)
+
+  word_within : (k i : ℕ) → k ≤ 4 → i ≡ at + k → word_at pair k ≡ word_at map i
+  unfolding word_at
+  word_within k i low here =
+      rw (here, add_assoc at k 1, add_assoc at k 2, add_assoc at k 3, byte_within k (omega arith), byte_within (k + 1) (omega arith), byte_within (k + 2) (omega arith), byte_within (k + 3) (omega arith))
+
+  pub rest_behind : rest ≡ drop (at + 8) map
+  rest_behind = sym (drop-append_seam pair rest) ∙ rw (← cut, size) (drop-drop 8 at map)
+
+  pair_inside : at + 8 ≤ length map
+  pair_inside = omega (arith, ap length cut, length-append pair rest, length-drop at map)
+
+  pub past_pair : ((i : ℕ) → get_or map i 0 < 256) → {first second : ℕ} → first ≡ word_at pair 0 → second ≡ word_at pair 4 →
+      (bad_word first || bad_word second) ≡ false → Lettered map at (at + 8)
+  past_pair are_bytes {first} {second} is-first is-second letters =
+      let both = or_false letters in
+      let one : Lettered map at (at + 4) = past_word map are_bytes at (omega (arith, pair_inside)) (is-first ∙ word_within 0 at (omega arith) (omega arith)) both.0 in
+      let other : Lettered map (at + 4) (at + 4 + 4) = past_word map are_bytes (at + 4) (omega (arith, pair_inside)) (is-second ∙ word_within 4 (at + 4) (omega arith) refl) both.1 in
+      rw (add_assoc at 4 4) at (past_both one other)
 
 -- the lowest bad letter is behind them
 pub lowest_behind : {map : List ℕ} {from to : ℕ} → Lettered map from to → lowest (bad_letter_at map) from (length map - from) ≡ lowest (bad_letter_at map) to (length map - to)

@@ -6,7 +6,8 @@ use Prim.Native.Nat.{ℕ, ◌≤◌}
 use borrow.Author.Tests.{ltb-false, eqb-true, not-false}
 use lib.Dec.{eqb}
 use lib.ListN.{length}
-use Rattle.replies.specs.declared.Check.{Check}
+use Rattle.std.specs.Prelude.{Result}
+use Rattle.replies.specs.declared.Refusal.{Refusal}
 use Rattle.replies.specs.First.{first_of, NoneFits, Tried}
 use Rattle.replies.specs.Told.{succeeded, told_check}
 use Rattle.replies.proofs.First.{tried, none_before, none_under}
@@ -18,11 +19,11 @@ use Rattle.mapcheck.proofs.Counts.{placed_none, in_range}
 
 module _ (map : List ℕ) where
   -- the map check's answer
-  pub map_tried : (answer : Check) → told_check answer ≡ first_of (map_tests map) (succeeded 0 0) → Tried (map_tests map) answer
+  pub map_tried : (answer : Result (Unit {0}) Refusal) → told_check answer ≡ first_of (map_tests map) (succeeded 0 0) → Tried (map_tests map) answer
   map_tried answer told = tried (map_tests map) answer tt told
 
   -- and that of a map whose links are not made yet
-  pub chaining_tried : (answer : Check) → told_check answer ≡ first_of (chaining_tests map) (succeeded 0 0) → Tried (chaining_tests map) answer
+  pub chaining_tried : (answer : Result (Unit {0}) Refusal) → told_check answer ≡ first_of (chaining_tests map) (succeeded 0 0) → Tried (chaining_tests map) answer
   chaining_tried answer told = tried (chaining_tests map) answer tt told
 
   -- 1 to 4 leave a header

@@ -256,11 +256,11 @@ module _ (map : List ℕ) (whole : length map ≡ length_needed map) where
       (put_all_twice junction_at (λ j. 0) (first_link map) firsts_spread 1 (junction_count map) map (omega arith))
 
 -- one more junction is cleared
-pub clear_more : (map : List ℕ) (j : ℕ) → 1 ≤ j
-    → put_at (put_all junction_at (λ i. 0) 1 (j - 1) map) (junction_at j) 0 ≡ put_all junction_at (λ i. 0) 1 (j + 1 - 1) map
-clear_more map j low =
-    let more : j + 1 - 1 ≡ suc (j - 1) = omega arith in
-    rw more (sym (put_last junction_at (λ i. 0) 1 (j - 1) j map (omega arith)))
+pub clear_more : (map : List ℕ) {s after : List ℕ} {j n at : ℕ} → 1 ≤ j → n ≡ j → s ≡ put_all junction_at (λ i. 0) 1 (j - 1) map → at ≡ junction_at j
+    → after ≡ put_at s at 0 → after ≡ put_all junction_at (λ i. 0) 1 n map
+clear_more map {j = j} {n = n} low count before is-at is-after =
+    let more : n ≡ suc (j - 1) = omega arith in
+    rw (is-after, before, is-at, more) (sym (put_last junction_at (λ i. 0) 1 (j - 1) j map (omega arith)))
 
 -- the second pass before road r, with map as it was and s as it is
 module _ (map : List ℕ) (sizes : Sizes) (has : HasSizes map sizes) (r : ℕ) (high : r ≤ sizes.roads) {s : List ℕ} (is-s : s ≡ linked map (r + 1) (sizes.roads - r)) where

@@ -5,7 +5,7 @@ use mathlib.Core.List.{List}
 use Prim.Native.Nat.{ℕ, ◌≤◌}
 use native.Mathlib.Omega.{arith}
 use borrow.Author.Tests.{ne_eqb}
-use Rattle.replies.specs.declared.Check.{Check}
+use Rattle.std.specs.Prelude.{Ok, Err}
 use Rattle.replies.specs.declared.Refusal.{Refusal}
 use Rattle.replies.specs.First.{first_of, NoneFits}
 use Rattle.replies.specs.Told.{succeeded, told_refusal}
@@ -18,7 +18,7 @@ use Rattle.mapedit.specs.Passes.{FromKnown}
 
 module _ (map : List ℕ) where
   -- a refusal changes no byte
-  pub made_refused : (why : Refusal) → told_refusal why ≡ first_of (chaining_tests map) (succeeded 0 0) → ChainMaking map map (Check.Refused why)
+  pub made_refused : (why : Refusal) → told_refusal why ≡ first_of (chaining_tests map) (succeeded 0 0) → ChainMaking map map (Err why)
   unfolding chaining_reply after_chaining
   made_refused why told =
       record {
@@ -27,7 +27,7 @@ module _ (map : List ℕ) where
       }
 
   -- a success makes the chains
-  pub made_passed : {after : List ℕ} → succeeded 0 0 ≡ first_of (chaining_tests map) (succeeded 0 0) → after ≡ chained map → ChainMaking map after Check.Passed
+  pub made_passed : {after : List ℕ} → succeeded 0 0 ≡ first_of (chaining_tests map) (succeeded 0 0) → after ≡ chained map → ChainMaking map after (Ok tt)
   unfolding chaining_reply after_chaining
   made_passed told is-after = record { reply = told; bytes = rw (← told) is-after }
 

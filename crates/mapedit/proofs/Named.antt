@@ -1,9 +1,10 @@
 -- The cases of a name's reply, and what a name is where the reply does not refuse. Assumes nothing.
 use mathlib.Core.Path.{◌≡◌, ◌∙◌, sym, ap}
+use mathlib.Core.Bool.{true, false}
 use mathlib.Core.List.{List, [], ◌∷◌, ◌++◌}
-use Prim.Native.Nat.{ℕ, ◌+◌, ◌-◌, ◌≤◌, ◌<◌}
+use Prim.Native.Nat.{ℕ, ◌+◌, ◌-◌, ◌≤◌}
 use native.Mathlib.Omega.{arith}
-use borrow.Author.Tests.{lt-ltb, le-ltb, ne_eqb}
+use borrow.Author.Tests.{ne_eqb}
 use lib.ListN.{take, drop}
 use Rattle.replies.specs.declared.Reply.{Reply}
 use Rattle.replies.specs.declared.Refusal.{Refusal}
@@ -23,20 +24,17 @@ module _ (map : List ℕ) (junction : ℕ) where
   refused_map why refuses = sym (refuses ((20 at unknown_name map junction) ∷ []) (succeeded (name_length map junction) 0))
 
   module _ (accepted : AcceptedMap map) where
-    pub below_all : junction < 1 → refused_at 20 junction ≡ name_reply map junction
-    unfolding name_reply outside
-    below_all low = sym (none_fits (map_tests map) _ _ accepted ∙ stops_at _ _ _ (rw (lt-ltb _ _ low)))
+    -- and on a map that passes, a junction that is none of its own does
+    pub unknown : outside 1 (junction_count map) junction ≡ true → refused_at 20 junction ≡ name_reply map junction
+    unfolding name_reply
+    unknown judged = sym (none_fits (map_tests map) _ _ accepted ∙ stops_at _ _ _ (rw judged))
 
-    pub above_all : 1 ≤ junction → junction_count map < junction → refused_at 20 junction ≡ name_reply map junction
-    unfolding name_reply outside
-    above_all low high = sym (none_fits (map_tests map) _ _ accepted ∙ stops_at _ _ _ (rw (le-ltb _ _ low, lt-ltb _ _ high)))
-
-    pub named : 1 ≤ junction → junction ≤ junction_count map → succeeded (name_length map junction) 0 ≡ name_reply map junction
-    unfolding name_reply outside first_of
-    named low high =
+    pub named : outside 1 (junction_count map) junction ≡ false → succeeded (name_length map junction) 0 ≡ name_reply map junction
+    unfolding name_reply first_of
+    named judged =
         sym
         (none_fits (map_tests map) ((20 at unknown_name map junction) ∷ []) (succeeded (name_length map junction) 0) accepted
-        ∙ passed_over (20 at unknown_name map junction) [] _ (rw (le-ltb _ _ low, le-ltb _ _ high)))
+        ∙ passed_over (20 at unknown_name map junction) [] _ (rw judged))
 
   -- the tests of a name
   abbrev last : List Test
@@ -48,6 +46,7 @@ module _ (map : List ℕ) (junction : ℕ) where
   -- what a reply of number 0 says
   pub record Named : Type 0 where
     pub accepted : AcceptedMap map
+    pub judged : outside 1 (junction_count map) junction ≡ false
     pub known : Within 1 (junction_count map) junction
     -- the name ends within the map
     pub inside : name_at map junction + name_length map junction ≤ length_needed map
@@ -57,14 +56,15 @@ module _ (map : List ℕ) (junction : ℕ) where
   number_named zero =
       let none = none_fitted name_tests (succeeded (name_length map junction) 0) tt zero in
       let accepted = none_before (map_tests map) last none in
-      let known : Within 1 (junction_count map) junction = within (placed_none junction (none_behind (map_tests map) last none).0) in
+      let judged = placed_none junction (none_behind (map_tests map) last none).0 in
+      let known : Within 1 (junction_count map) junction = within judged in
       let inside = ((sound_map map accepted).junctions junction known.above known.below).inside in
-      record { accepted = accepted; known = known; inside = omega arith }
+      record { accepted = accepted; judged = judged; known = known; inside = omega arith }
 
   pub length_named : {length : ℕ} → succeeded length 0 ≡ name_reply map junction → length ≡ name_length map junction
   length_named told =
       let named-so = number_named (sym (ap (λ (r : Reply). r.number) told)) in
-      ap (λ (r : Reply). r.place) (told ∙ sym (named named-so.accepted named-so.known.above named-so.known.below))
+      ap (λ (r : Reply). r.place) (told ∙ sym (named named-so.accepted named-so.judged))
 
   -- the part where the reply does not refuse
   pub part_named : {length : ℕ} (from end : ℕ) → succeeded length 0 ≡ name_reply map junction

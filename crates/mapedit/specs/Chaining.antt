@@ -1,9 +1,9 @@
 -- Chain making: each chain rises through all its junction's roads, and nothing else changes. Document 01, "Afterwards".
 -- Assumes nothing.
-use Rattle.std.specs.Prelude.{◌≡◌, List, ℕ, zero, suc, ◌+◌, ◌-◌, eqb}
+use Rattle.std.specs.Prelude.{Result, ◌≡◌, List, ℕ, zero, suc, ◌+◌, ◌-◌, eqb}
 use Rattle.words.specs.Word.{put_at}
 use Rattle.replies.specs.declared.Reply.{Reply}
-use Rattle.replies.specs.declared.Check.{Check}
+use Rattle.replies.specs.declared.Refusal.{Refusal}
 use Rattle.replies.specs.First.{first_of}
 use Rattle.replies.specs.Told.{succeeded, told_check}
 use Rattle.booleans.specs.Pick.{pick}
@@ -42,6 +42,6 @@ unfoldable pub after_chaining : List ℕ → List ℕ
 after_chaining map = pick (eqb (chaining_reply map).number 0) (chained map) map
 
 -- what chain making owes: the reply, and every byte afterwards
-pub record ChainMaking (before after : List ℕ) (answer : Check) : Type 0 where
+pub record ChainMaking (before after : List ℕ) (answer : Result (Unit {0}) Refusal) : Type 0 where
   pub reply : told_check answer ≡ chaining_reply before
   pub bytes : after ≡ after_chaining before

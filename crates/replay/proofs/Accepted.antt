@@ -20,8 +20,8 @@ use Rattle.driving.proofs.Accepted.{rules_sound, figures_sound}
 use Rattle.replay.specs.declared.Underway.{Underway}
 use Rattle.replay.specs.Trace.{trace_record_bytes, trace_record_at, record_count, records_of}
 use Rattle.replay.specs.Replay.{up_to_date, torn_trace, is_odd, is_stopped, first_stopped, placed_where, replay_tests}
-use Rattle.replay.specs.Steps.{record_tests, settled, step_on}
-use Rattle.replay.proofs.Stepping.{begun, ran_up_to_date}
+use Rattle.replay.specs.Steps.{begun, record_tests, settled, step_on}
+use Rattle.replay.proofs.Stepping.{ran_up_to_date}
 use Rattle.replay.proofs.Sounds.{paused_sound}
 use Rattle.replay.proofs.Walking.{Going, judged, going_from, stopped_next, takes_next}
 

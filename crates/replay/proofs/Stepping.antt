@@ -17,7 +17,7 @@ use Rattle.replay.specs.declared.TraceRecord.{TraceRecord}
 use Rattle.replay.specs.declared.Underway.{Underway}
 use Rattle.replay.specs.Trace.{is_driving, is_pause, paused_before, joined, trace_record_at, records_from, first_records}
 use Rattle.replay.specs.Replay.{after_activity, after_each, up_to_date, most_seconds}
-use Rattle.replay.specs.Steps.{lengthened, settled, step_on}
+use Rattle.replay.specs.Steps.{begun, lengthened, settled, step_on}
 use Rattle.replay.proofs.Joining.{before_other, joined_pause, joined_other, paused_twice, no_pause, no_pause_before, long_pause_before}
 
 -- the records of a list, one after the other
@@ -28,10 +28,6 @@ ran rules u (r ∷ rs) = ran rules (step_on rules u r) rs
 pub ran_more : (rules : Rules) (u : Underway) (rs : List TraceRecord) (r : TraceRecord) → ran rules u (rs ++ r ∷ []) ≡ step_on rules (ran rules u rs) r
 ran_more rules u [] r = refl
 ran_more rules u (s ∷ rs) r = ran_more rules (step_on rules u s) rs r
-
--- where a replay begins
-abbrev pub begun : Figures → Underway
-begun f = record { figures = f; pause = record { 0 = 0 } }
 
 -- the three kinds of record
 pub on_pause : (rules : Rules) (u : Underway) (r : TraceRecord) → is_pause r ≡ true → step_on rules u r ≡ record { figures = u.figures; pause = record { 0 = lengthened u.pause.0 r.seconds } }

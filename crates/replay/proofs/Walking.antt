@@ -18,23 +18,19 @@ use Rattle.driving.specs.Accepted.{SoundRules, SoundFigures}
 use Rattle.driving.specs.Hours.{wheel_figures, wheel_limits}
 use Rattle.replay.specs.declared.TraceRecord.{TraceRecord}
 use Rattle.replay.specs.declared.Underway.{Underway}
-use Rattle.replay.specs.declared.Step.{Step}
+use Rattle.std.specs.Prelude.{Ok, Err}
 use Rattle.replay.specs.Trace.{is_driving, trace_record_at, record_count, records_from, first_records}
 use Rattle.replay.specs.Replay.{up_to_date, is_odd, is_past, is_stopped, first_stopped, placed_where, odd_record, past_limit}
-use Rattle.replay.specs.Steps.{record_tests, settled, Sound, step_on, goes_past, stepped, WalkSays}
+use Rattle.replay.specs.Steps.{begun, record_tests, settled, Sound, step_on, goes_past, stepped, WalkSays}
 use Rattle.replay.proofs.Joining.{driving_no_pause, no_pause}
-use Rattle.replay.proofs.Stepping.{ran, ran_more, begun, on_other, ran_up_to_date, first_more}
+use Rattle.replay.proofs.Stepping.{ran, ran_more, on_other, ran_up_to_date, first_more}
 use Rattle.replay.proofs.Sounds.{step_sound}
 
 -- what a record does, by what is known of it
 pub judged : (rules : Rules) (u : Underway) (k : ℕ) (r : TraceRecord) {odd past : Bool} → is_odd r ≡ odd → goes_past rules u r ≡ past →
-    stepped rules u k r ≡ pick odd (Step.Stopped (Refusal.OddRecord k)) (pick past (Step.Stopped (Refusal.PastLimit k)) (Step.Taken (step_on rules u r)))
+    stepped rules u k r ≡ pick odd (Err (Refusal.OddRecord k)) (pick past (Err (Refusal.PastLimit k)) (Ok (step_on rules u r)))
 judged rules u k r is_odd is-past =
-    ap₂ (λ (a b : Bool). pick a (Step.Stopped (Refusal.OddRecord k)) (pick b (Step.Stopped (Refusal.PastLimit k)) (Step.Taken (step_on rules u r)))) is_odd is-past
-
-pub past : (rules : Rules) (u : Underway) (r : TraceRecord) {within : Bool} → is_driving r ≡ true →
-    none_above (wheel_figures (step_on rules u r).figures) (wheel_limits rules) ≡ within → goes_past rules u r ≡ not within
-past rules u r drives limits = ap₂ (λ (a b : Bool). a && not b) drives limits
+    ap₂ (λ (a b : Bool). pick a (Err (Refusal.OddRecord k)) (pick b (Err (Refusal.PastLimit k)) (Ok (step_on rules u r)))) is_odd is-past
 
 placed_where_lem : (fits : ℕ → Bool) {p : Option ℕ} {k : ℕ} → p ≡ some k → fits k ≡ true → placed_where fits p ≡ some k
 placed_where_lem fits is fitting = rw (is, fitting)
@@ -112,7 +108,7 @@ module _ (trace : List ℕ) (rules : Rules) (f : Figures) where
           passed_over (22 at odd_record trace rules f) _ success (placed_nowhere (λ k. is_odd (trace_record_at trace k)) here even)
           ∙ stops_at (23 at past_limit trace rules f) rest success (placed_where_lem (λ k. not (is_odd (trace_record_at trace k))) here (rw even))
 
-      pub stops_next : (why : Refusal) → stepped rules u (done + 1) next ≡ Step.Stopped why → Refuses (record_tests trace rules f) why
+      pub stops_next : (why : Refusal) → stepped rules u (done + 1) next ≡ Err why → Refuses (record_tests trace rules f) why
       stops_next why e = by (is_odd next) (goes_past rules u next) refl refl
         where
           by : (odd past : Bool) → is_odd next ≡ odd → goes_past rules u next ≡ past → Refuses (record_tests trace rules f) why
@@ -125,7 +121,7 @@ module _ (trace : List ℕ) (rules : Rules) (f : Figures) where
           by false false is_odd is-past = absurd (let z : ◌≡◌ {A = ℕ} 0 1 = cc (judged rules u (done + 1) next is_odd is-past, e) in omega arith)
 
       -- one that is taken hands the replay on
-      pub takes_next : (v : Underway) → stepped rules u (done + 1) next ≡ Step.Taken v → Going trace rules f (done + 1) v
+      pub takes_next : (v : Underway) → stepped rules u (done + 1) next ≡ Ok v → Going trace rules f (done + 1) v
       takes_next v e = by (is_odd next) (goes_past rules u next) refl refl
         where
           by : (odd past : Bool) → is_odd next ≡ odd → goes_past rules u next ≡ past → Going trace rules f (done + 1) v
@@ -141,7 +137,7 @@ module _ (trace : List ℕ) (rules : Rules) (f : Figures) where
               }
 
     -- at the end no record was refused, and the figures are those of the whole trace
-    pub ends : record_count trace ≤ done → WalkSays trace rules f (Step.Taken u)
+    pub ends : record_count trace ≤ done → WalkSays trace rules f (Ok u)
     ends all =
         let same : done ≡ record_count trace = omega (arith, going.high) in
         let none-stops = lowest_none (is_stopped trace rules f) 1 (record_count trace) (λ x low high. going.before x low (omega arith)) in (

@@ -1,10 +1,10 @@
 -- Replaying a trace: the driver's figures, brought up to date by each activity. Document 02, P3, P5 and P7. Assumes nothing.
-use Rattle.std.specs.Prelude.{◌≡◌, Bool, not, ◌&&◌, ◌||◌, List, [], ◌∷◌, ℕ, ◌%◌, leb, ltb, eqb, length}
+use Rattle.std.specs.Prelude.{◌≡◌, Bool, not, ◌&&◌, ◌||◌, List, [], ◌∷◌, ℕ, ◌%◌, leb, ltb, eqb, length, Result}
 use Rattle.std.proofs.Math.Option.{Option, none, some}
 use Rattle.booleans.specs.Pick.{pick}
 use Rattle.theory.specs.Figures.{none_above}
 use Rattle.replies.specs.declared.Reply.{Reply}
-use Rattle.replies.specs.declared.Replaying.{Replaying}
+use Rattle.replies.specs.declared.Refusal.{Refusal}
 use Rattle.replies.specs.First.{Test, ◌at◌, first_of, placed, lowest}
 use Rattle.replies.specs.Told.{succeeded, told_replaying}
 use Rattle.driving.specs.declared.Figures.{Figures}
@@ -100,6 +100,6 @@ figures_after trace rules f =
     pick (eqb (replay_reply trace rules f).number 0) (up_to_date rules (records_of trace) f) f
 
 -- what replaying owes: its answer, and every figure
-pub record Replayed (trace : List ℕ) (rules : Rules) (before after : Figures) (answer : Replaying) : Type 0 where
+pub record Replayed (trace : List ℕ) (rules : Rules) (before after : Figures) (answer : Result ℕ Refusal) : Type 0 where
   pub reply : told_replaying answer ≡ replay_reply trace rules before
   pub figures : after ≡ figures_after trace rules before

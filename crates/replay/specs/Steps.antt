@@ -1,5 +1,5 @@
 -- The steps that a replay is made of: only private functions promise these. Assumes nothing.
-use Rattle.std.specs.Prelude.{◌≡◌, Bool, not, ◌&&◌, List, [], ◌∷◌, ℕ, ◌+◌, ◌≤◌, ltb}
+use Rattle.std.specs.Prelude.{◌≡◌, Bool, not, ◌&&◌, List, [], ◌∷◌, ℕ, ◌+◌, ◌≤◌, ltb, Result, Ok, Err}
 use Rattle.booleans.specs.Pick.{pick}
 use Rattle.theory.specs.Figures.{none_above}
 use Rattle.replies.specs.declared.Refusal.{Refusal}
@@ -11,7 +11,8 @@ use Rattle.driving.specs.Hours.{wheel_figures, wheel_limits, driven_on}
 use Rattle.driving.specs.Order.{bad_rules, bad_figures}
 use Rattle.replay.specs.declared.TraceRecord.{TraceRecord}
 use Rattle.replay.specs.declared.Underway.{Underway}
-use Rattle.replay.specs.declared.Step.{Step}
+use Rattle.replay.specs.declared.Activity.{Activity}
+use Rattle.replay.specs.declared.Activity.TheVariants.{OtherWork, Driving, Pause}
 use Rattle.replay.specs.Trace.{is_driving, is_pause, records_of}
 use Rattle.replay.specs.Replay.{after_pause, up_to_date, most_seconds, is_odd, torn_trace, odd_record, past_limit}
 
@@ -23,6 +24,15 @@ record_tests trace rules f = (22 at odd_record trace rules f) ∷ (23 at past_li
 
 abbrev pub trace_tests : List ℕ → Rules → Figures → List Test
 trace_tests trace rules f = (21 at torn_trace trace) ∷ record_tests trace rules f
+
+abbrev pub activity_number : Activity → ℕ
+activity_number OtherWork = 0
+activity_number Driving = 1
+activity_number Pause = 2
+
+-- where a replay begins, and goes on behind a record that is no pause
+abbrev pub begun : Figures → Underway
+begun f = record { figures = f; pause = record { 0 = 0 } }
 
 -- a pause that goes on, to the longest that any rule asks for
 abbrev pub lengthened : ℕ → ℕ → ℕ
@@ -49,17 +59,17 @@ abbrev pub goes_past : Rules → Underway → TraceRecord → Bool
 goes_past rules u r = is_driving r && not (none_above (wheel_figures (step_on rules u r).figures) (wheel_limits rules))
 
 -- record k, judged and taken
-abbrev pub stepped : Rules → Underway → ℕ → TraceRecord → Step
+abbrev pub stepped : Rules → Underway → ℕ → TraceRecord → Result Underway Refusal
 stepped rules u k r =
-    pick (is_odd r) (Step.Stopped (Refusal.OddRecord k))
-    (pick (goes_past rules u r) (Step.Stopped (Refusal.PastLimit k)) (Step.Taken (step_on rules u r)))
+    pick (is_odd r) (Err (Refusal.OddRecord k))
+    (pick (goes_past rules u r) (Err (Refusal.PastLimit k)) (Ok (step_on rules u r)))
 
 -- 22 and 23, or the figures of the whole trace
-abbrev pub WalkSays : List ℕ → Rules → Figures → Step → Type 0
-WalkSays trace rules f (Step.Stopped why) = Refuses (record_tests trace rules f) why
-WalkSays trace rules f (Step.Taken u) = NoneFits (record_tests trace rules f) × (settled rules u ≡ up_to_date rules (records_of trace) f)
+abbrev pub WalkSays : List ℕ → Rules → Figures → Result Underway Refusal → Type 0
+WalkSays trace rules f (Err why) = Refuses (record_tests trace rules f) why
+WalkSays trace rules f (Ok u) = NoneFits (record_tests trace rules f) × (settled rules u ≡ up_to_date rules (records_of trace) f)
 
 -- with 21 before them
-abbrev pub TraceSays : List ℕ → Rules → Figures → Step → Type 0
-TraceSays trace rules f (Step.Stopped why) = Refuses (trace_tests trace rules f) why
-TraceSays trace rules f (Step.Taken u) = NoneFits (trace_tests trace rules f) × (settled rules u ≡ up_to_date rules (records_of trace) f)
+abbrev pub TraceSays : List ℕ → Rules → Figures → Result Underway Refusal → Type 0
+TraceSays trace rules f (Err why) = Refuses (trace_tests trace rules f) why
+TraceSays trace rules f (Ok u) = NoneFits (trace_tests trace rules f) × (settled rules u ≡ up_to_date rules (records_of trace) f)

@@ -1,10 +1,9 @@
 -- Rank is a total order, equal states are told apart from others, and covering is a preorder that ranks no higher. Assumes nothing.
 use mathlib.Core.Path.{◌≡◌, refl, sym, ap, ◌∙◌}
-use mathlib.Core.Bool.{true, false}
+use mathlib.Core.Bool.{true}
 use mathlib.Core.List.{List, [], ◌∷◌}
 use Prim.Native.Nat.{ℕ, ◌≤◌, ◌<◌}
 use native.Mathlib.Omega.{arith}
-use borrow.Author.Tests.{eq-eqb, ne_eqb}
 use lib.Dec.{T, eqb, eqb→eq, eqb_refl}
 use lib.ListN.{get_or}
 use Rattle.booleans.proofs.Tests.{T_true, true_T, and_l, and_r, and_i}
@@ -67,16 +66,8 @@ same_decides =
       self = λ x. same_self (rank_figures x);
     }
 
--- covering, as a test, and taken apart and made
+-- covering, taken apart and made
 module _ (b a : State) where
-  pub covers_other : (b.junction ≡ a.junction → ⊥) → covers b a ≡ false
-  unfolding covers
-  covers_other other = rw (ne_eqb _ _ other)
-
-  pub covers_here : b.junction ≡ a.junction → covers b a ≡ none_above (figures_of b) (figures_of a)
-  unfolding covers
-  covers_here same = rw (eq-eqb _ _ same)
-
   pub covers_junction : T (covers b a) → b.junction ≡ a.junction
   unfolding covers
   covers_junction t = eqb→eq b.junction a.junction (and_l (eqb b.junction a.junction) (none_above (figures_of b) (figures_of a)) t)

@@ -1,15 +1,15 @@
 // A state of a trip, and how two states compare: figure by figure, in the order of the definitions.
 #![tactic(auto)]
 
-ghost use Rattle.std.specs.Prelude.{◌≡◌};
+ghost use Rattle.std.specs.Prelude.{◌≡◌, [], ◌∷◌};
 ghost use Rattle.states.specs.LabelSpace.{labels_that_fit};
-ghost use Rattle.states.specs.States.{start_of, legal, same_state, covers, ranks_no_higher};
+ghost use Rattle.states.specs.States.{start_of, legal, same_state, covers, rank_figures, ranks_no_higher};
 
 use driving::{Figures, Order};
 use seconds::{Clock, Wheel};
 
 // Where the lorry is and when, and the driver's figures.
-#[derive(Clone, Copy)]
+#[derive(Clone, Copy, PartialEq, Eq)]
 pub struct State {
     pub junction: u32,
     pub clock: Clock,
@@ -17,18 +17,6 @@ pub struct State {
 }
 
 impl State {
-    // Stands where there is no state: junctions count from 1.
-    pub const NOWHERE: State = State {
-        junction: 0,
-        clock: Clock(0),
-        figures: Figures {
-            spell: Wheel(0),
-            shift: Wheel(0),
-            week: Wheel(0),
-            marked: false,
-        },
-    };
-
     // The words that a label takes: its state, and how the search goes on from it.
     pub const LABEL_WORDS: usize = 10;
 
@@ -39,107 +27,71 @@ impl State {
 pub fn labels_that_fit(words: usize) -> usize
     ensures { result ≡ labels_that_fit words }
 {
-    let whole = words / State::LABEL_WORDS;
-    if whole < State::MOST_LABELS {
-        return whole;
-    }
-    State::MOST_LABELS
+    (words / State::LABEL_WORDS).min(State::MOST_LABELS)
 }
 
 pub fn start_of(order: Order) -> State
     ensures { result ≡ start_of order }
 {
-    let clock = order.departure;
-    let figures = order.figures;
     State {
         junction: order.source,
-        clock,
-        figures,
+        clock: order.departure,
+        figures: order.figures,
     }
 }
 
+#[tactic(auto, using(driving::proofs::Clocks::at_most), unfolding(crate::specs::States::legal, theory::specs::Figures::none_above))]
 pub fn is_legal(order: Order, state: State) -> bool
     ensures { result ≡ legal order state }
 {
-    if order.latest.0 < state.clock.0 {
-        return false;
-    }
-    if order.rules.spell_limit.0 < state.figures.spell.0 {
-        return false;
-    }
-    if order.rules.shift_limit.0 < state.figures.shift.0 {
-        return false;
-    }
-    state.figures.week.0 <= order.rules.week_limit.0
+    let figures = state.figures;
+    let rules = order.rules;
+    state.clock <= order.latest
+        && figures.spell <= rules.spell_limit
+        && figures.shift <= rules.shift_limit
+        && figures.week <= rules.week_limit
 }
 
-// Whether b is at a's junction, and no worse.
+// Whether b is at a's junction, and no worse: of two states the one with the mark is better.
+#[tactic(auto, using(driving::proofs::Clocks::at_most), unfolding(crate::specs::States::covers, theory::specs::Figures::none_above))]
 pub fn covers(b: State, a: State) -> bool
     ensures { result ≡ covers b a }
 {
-    if b.junction != a.junction {
-        return false;
-    }
-    if a.clock.0 < b.clock.0 {
-        return false;
-    }
-    if a.figures.spell.0 < b.figures.spell.0 {
-        return false;
-    }
-    if a.figures.shift.0 < b.figures.shift.0 {
-        return false;
-    }
-    if a.figures.week.0 < b.figures.week.0 {
-        return false;
-    }
-    let b_mark = driving::unmarked(b.figures);
-    let a_mark = driving::unmarked(a.figures);
-    b_mark <= a_mark
+    b.junction == a.junction
+        && b.clock <= a.clock
+        && b.figures.spell <= a.figures.spell
+        && b.figures.shift <= a.figures.shift
+        && b.figures.week <= a.figures.week
+        && driving::unmarked(b.figures) <= driving::unmarked(a.figures)
+}
+
+// What decides first stands first: of two states the one with the mark is better.
+fn rank(state: State) -> (Clock, Wheel, Wheel, Wheel, u32, u32)
+    ensures { result.0.0 ∷ result.1.0 ∷ result.2.0 ∷ result.3.0 ∷ result.4 ∷ result.5 ∷ [] ≡ rank_figures state }
+{
+    let figures = state.figures;
+    let mark = driving::unmarked(figures);
+    (
+        state.clock,
+        figures.spell,
+        figures.shift,
+        figures.week,
+        mark,
+        state.junction,
+    )
 }
 
 // Whether b ranks no higher than a.
+#[tactic(auto, using(crate::proofs::Told::ranked), unfolding(crate::specs::States::ranks_no_higher))]
 pub fn ranks_no_higher(b: State, a: State) -> bool
     ensures { result ≡ ranks_no_higher b a }
 {
-    if b.clock.0 != a.clock.0 {
-        return b.clock.0 < a.clock.0;
-    }
-    if b.figures.spell.0 != a.figures.spell.0 {
-        return b.figures.spell.0 < a.figures.spell.0;
-    }
-    if b.figures.shift.0 != a.figures.shift.0 {
-        return b.figures.shift.0 < a.figures.shift.0;
-    }
-    if b.figures.week.0 != a.figures.week.0 {
-        return b.figures.week.0 < a.figures.week.0;
-    }
-    let b_mark = driving::unmarked(b.figures);
-    let a_mark = driving::unmarked(a.figures);
-    if b_mark != a_mark {
-        return b_mark < a_mark;
-    }
-    b.junction <= a.junction
+    rank(b) <= rank(a)
 }
 
+#[tactic(auto, using(crate::proofs::Told::same_told))]
 pub fn same_state(b: State, a: State) -> bool
     ensures { result ≡ same_state b a }
 {
-    if b.clock.0 != a.clock.0 {
-        return false;
-    }
-    if b.figures.spell.0 != a.figures.spell.0 {
-        return false;
-    }
-    if b.figures.shift.0 != a.figures.shift.0 {
-        return false;
-    }
-    if b.figures.week.0 != a.figures.week.0 {
-        return false;
-    }
-    let b_mark = driving::unmarked(b.figures);
-    let a_mark = driving::unmarked(a.figures);
-    if b_mark != a_mark {
-        return false;
-    }
-    b.junction == a.junction
+    b == a
 }

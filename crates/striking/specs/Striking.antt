@@ -1,9 +1,9 @@
 -- Striking a road: its to-junction becomes its from-junction, and nothing else changes. Document 02, P6. Assumes nothing.
-use Rattle.std.specs.Prelude.{◌≡◌, List, [], ◌∷◌, ◌++◌, ℕ, ◌+◌, eqb}
+use Rattle.std.specs.Prelude.{Result, ◌≡◌, List, [], ◌∷◌, ◌++◌, ℕ, ◌+◌, eqb}
 use Rattle.std.proofs.Math.Option.{Option}
 use Rattle.words.specs.Word.{put_at}
 use Rattle.replies.specs.declared.Reply.{Reply}
-use Rattle.replies.specs.declared.Check.{Check}
+use Rattle.replies.specs.declared.Refusal.{Refusal}
 use Rattle.replies.specs.First.{Test, ◌at◌, placed, first_of}
 use Rattle.replies.specs.Told.{succeeded, told_check}
 use Rattle.booleans.specs.Pick.{pick}
@@ -34,6 +34,6 @@ unfoldable pub after_striking : List ℕ → ℕ → List ℕ
 after_striking map road = pick (eqb (striking_reply map road).number 0) (struck map road) map
 
 -- what striking owes: the reply, and every byte afterwards
-pub record Striking (map : List ℕ) (road : ℕ) (map' : List ℕ) (answer : Check) : Type 0 where
+pub record Striking (map : List ℕ) (road : ℕ) (map' : List ℕ) (answer : Result (Unit {0}) Refusal) : Type 0 where
   pub reply : told_check answer ≡ striking_reply map road
   pub bytes : map' ≡ after_striking map road

@@ -8,15 +8,19 @@ use Rattle.mapcheck.proofs.bad_junction.Goals as goal
 pub returns-then-junction_is_bad : goal.returns-then-junction_is_bad
 returns-then-junction_is_bad c =
     sym
-    (lowest_found _ 1 _ c.loop-j.j (omega arith) (omega arith) c.loop-j.invariant.1
-    (judged_junction c.args.links c.args.map.now c.args.sizes c.loop-j.j c.requires c.read_junction.ensures c.junction_is_bad.ensures ∙ c.if-junction_is_bad.true))
+    (lowest_found _ 1 _ c.loop-j.j (omega arith) (omega arith) c.loop-j.invariant
+    (judged_junction c.args.links c.args.map.now c.loop-j.j c.junction.ensures c.junction_is_bad.ensures ∙ c.if-junction_is_bad.true))
 
 pub loop-j-preserved : goal.loop-j-preserved
-loop-j-preserved c = (
-  omega arith,
-  one_more _ c.loop-j.invariant.1
-      (judged_junction c.args.links c.args.map.now c.args.sizes c.loop-j.j c.requires c.read_junction.ensures c.junction_is_bad.ensures ∙ c.if-junction_is_bad.false),
-)
+loop-j-preserved c =
+    one_more _ c.loop-j.invariant
+    (judged_junction c.args.links c.args.map.now c.loop-j.j c.junction.ensures c.junction_is_bad.ensures ∙ c.if-junction_is_bad.false)
 
 pub returns : goal.returns
-returns c = sym (lowest_none _ 1 _ (λ x low high. c.loop-j.invariant.1 x low (omega arith)))
+returns c = sym (lowest_none _ 1 _ (λ x low high. c.loop-j.invariant x low (omega arith)))
+
+pub returns-else-junction_is_bad : goal.returns-else-junction_is_bad
+returns-else-junction_is_bad c =
+    let good =
+    judged_junction c.args.links c.args.map.now c.loop-j.j c.junction.ensures c.junction_is_bad.ensures ∙ c.if-junction_is_bad.false in
+    sym (lowest_none _ 1 _ (λ x low high. one_more _ c.loop-j.invariant good x low (omega arith)))

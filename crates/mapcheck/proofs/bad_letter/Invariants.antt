@@ -1,11 +1,6 @@
-use Prim.Native.Nat.{◌≤◌, ◌-◌}
-use lib.ListN.{length}
 use Rattle.replies.proofs.First.{NoneBelow}
 use Rattle.mapcheck.specs.MapCheck.{bad_letter_at}
 use Rattle.mapcheck.proofs.bad_letter.Given as goal
 
 abbrev pub invariant-loop-i : goal.invariant-loop-i
-invariant-loop-i l = (l.from ≤ l.i) × NoneBelow (bad_letter_at l.map) l.from l.i
-
-abbrev pub decreases-loop-i : goal.decreases-loop-i
-decreases-loop-i l = length l.map - l.i
+invariant-loop-i l = NoneBelow (bad_letter_at l.map) l.from l.i

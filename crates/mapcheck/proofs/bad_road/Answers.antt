@@ -8,15 +8,19 @@ use Rattle.mapcheck.proofs.bad_road.Goals as goal
 pub returns-then-road_is_bad : goal.returns-then-road_is_bad
 returns-then-road_is_bad c =
     sym
-    (lowest_found _ 1 _ c.loop-r.r (omega arith) (omega arith) c.loop-r.invariant.1
-    (judged_road c.args.links c.args.map.now c.args.sizes c.loop-r.r c.requires c.read_road.ensures c.road_is_bad.ensures ∙ c.if-road_is_bad.true))
+    (lowest_found _ 1 _ c.loop-r.r (omega arith) (omega arith) c.loop-r.invariant
+    (judged_road c.args.links c.args.map.now c.loop-r.r c.road.ensures c.road_is_bad.ensures ∙ c.if-road_is_bad.true))
 
 pub loop-r-preserved : goal.loop-r-preserved
-loop-r-preserved c = (
-  omega arith,
-  one_more _ c.loop-r.invariant.1
-      (judged_road c.args.links c.args.map.now c.args.sizes c.loop-r.r c.requires c.read_road.ensures c.road_is_bad.ensures ∙ c.if-road_is_bad.false),
-)
+loop-r-preserved c =
+    one_more _ c.loop-r.invariant
+    (judged_road c.args.links c.args.map.now c.loop-r.r c.road.ensures c.road_is_bad.ensures ∙ c.if-road_is_bad.false)
 
 pub returns : goal.returns
-returns c = sym (lowest_none _ 1 _ (λ x low high. c.loop-r.invariant.1 x low (omega arith)))
+returns c = sym (lowest_none _ 1 _ (λ x low high. c.loop-r.invariant x low (omega arith)))
+
+pub returns-else-road_is_bad : goal.returns-else-road_is_bad
+returns-else-road_is_bad c =
+    let good =
+    judged_road c.args.links c.args.map.now c.loop-r.r c.road.ensures c.road_is_bad.ensures ∙ c.if-road_is_bad.false in
+    sym (lowest_none _ 1 _ (λ x low high. one_more _ c.loop-r.invariant good x low (omega arith)))

@@ -5,9 +5,9 @@ use Rattle.mapcheck.specs.MapCheck.{size_tests}
 use Rattle.mapcheck.specs.Found.{content_tests}
 use Rattle.mapcheck.proofs.check_parts.Goals as goal
 
-pub returns-in-Refused : goal.returns-in-Refused
-returns-in-Refused c = sym (c.in-Refused.ensures _ _)
-
-pub returns-in-Fits : goal.returns-in-Fits
-returns-in-Fits c =
-    c.check_content.ensures ∙ sym (none_fits (size_tests c.args.map.now) (content_tests c.args.links c.args.map.now) (succeeded 0 0) c.in-Fits.ensures.1)
+pub returns : goal.returns
+returns c =
+    let map = c.args.map.now in
+    let header = c.in_ok-map.ensures in
+    rw header.0 at c.check_content.ensures
+    ∙ sym (none_fits (size_tests map) (content_tests c.args.links map) (succeeded 0 0) header.2)

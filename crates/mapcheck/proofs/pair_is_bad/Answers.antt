@@ -7,4 +7,4 @@ use Rattle.mapcheck.proofs.Letters.{bytes_of_two}
 use Rattle.mapcheck.proofs.pair_is_bad.Goals as goal
 
 pub returns : goal.returns
-returns c = flawed 8 (c.args.first + c.args.second * 4294967296) ∙ bytes_of_two c.args.first c.args.second (omega arith)
+returns c = rw (c.from.ensures, c.from-2.ensures) (flawed 8 (c.args.first + c.args.second * 4294967296) ∙ bytes_of_two c.args.first c.args.second (omega arith))

@@ -16,17 +16,17 @@ within_map map junction from long told is-from =
 
 pub overflow_add-end : goal.overflow_add-end
 overflow_add-end c =
-    let inside = within_map _ _ _ _ c.in-Named.ensures c.name_place-from.ensures in
+    let inside = within_map _ _ _ _ c.in-Ok.ensures c.name_place-from.ensures in
     omega arith
 
 pub slice_bounds-result-end : goal.slice_bounds-result-end
 slice_bounds-result-end c =
-    let inside = within_map _ _ _ _ c.in-Named.ensures c.name_place-from.ensures in
+    let inside = within_map _ _ _ _ c.in-Ok.ensures c.name_place-from.ensures in
     search rules
 
-pub returns-in-Named : goal.returns-in-Named
-returns-in-Named c =
-    part_named _ _ c.name_place-from.result (c.name_place-from.result + c.in-Named.length) c.in-Named.ensures c.name_place-from.ensures (omega arith)
+pub returns-in-Ok : goal.returns-in-Ok
+returns-in-Ok c =
+    part_named _ _ c.name_place-from.result (c.name_place-from.result + c.in-Ok.length) c.in-Ok.ensures c.name_place-from.ensures (omega arith)
 
-pub returns : goal.returns
-returns c = part_refused _ _ _ c.in_default.ensures
+pub returns-in-Err : goal.returns-in-Err
+returns-in-Err c = part_refused _ _ _ c.in-Err.ensures

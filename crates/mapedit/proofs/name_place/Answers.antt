@@ -7,10 +7,11 @@ use Rattle.mapedit.proofs.name_place.Goals as goal
 pub sizes_of-sizes-requires : goal.sizes_of-sizes-requires
 sizes_of-sizes-requires c = has_header _ (accepted_sizes _ (number_named _ _ c.requires).accepted)
 
-pub name_start-requires-clause-has_sizes : goal.name_start-requires-clause-has_sizes
-name_start-requires-clause-has_sizes c = has_sizes _ _ (accepted_sizes _ (number_named _ _ c.requires).accepted) c.sizes_of-sizes.ensures
+pub invariant_of-map : goal.invariant_of-map
+invariant_of-map c =
+    record { has_sizes = has_sizes _ _ (accepted_sizes _ (number_named _ _ c.requires).accepted) c.sizes_of-sizes.ensures }
 
-pub name_start-requires-clause-le_j : goal.name_start-requires-clause-le_j
-name_start-requires-clause-le_j c =
+pub name_start-requires : goal.name_start-requires
+name_start-requires c =
     let known = (number_named _ _ c.requires).known in
     (known.above, omega arith)

@@ -1,10 +1,6 @@
 -- Before each record the replay is under way.
-use Rattle.std.proofs.Common.{◌-◌}
 use Rattle.replay.proofs.Walking.{Going}
 use Rattle.replay.proofs.walk_records.Given as goal
 
 abbrev pub invariant-loop-done : goal.invariant-loop-done
-invariant-loop-done l = Going l.trace l.rules l.initial.underway.figures l.done l.underway
-
-abbrev pub decreases-loop-done : goal.decreases-loop-done
-decreases-loop-done l = l.records - l.done
+invariant-loop-done l = Going l.trace l.rules l.fn.figures l.done l.underway

@@ -1,60 +1,59 @@
 -- Each return is one of the law's cases, and the word put lies within an accepted map.
-use Rattle.std.proofs.Common.{◌≡◌, ◌∙◌, List, ℕ, Bool, false, arith, sym}
-use Rattle.replies.specs.declared.Check.{Check}
-use Rattle.roadmap.specs.declared.Sizes.{Sizes}
-use Rattle.roadmap.specs.Format.{HasSizes, junction_count, road_count, name_bytes}
+use Rattle.std.proofs.Common.{◌≡◌, ◌∙◌, Ok, Err, arith, sym}
+use Rattle.std.proofs.lemmas.Result.{err_from_is_err_and}
+use Rattle.roadmap.specs.Format.{HasSizes, road_count}
 use Rattle.mapcheck.specs.MapCheck.{outside, AcceptedMap}
-use Rattle.mapcheck.proofs.Counts.{Within, within}
+use Rattle.mapcheck.proofs.Counts.{within}
 use Rattle.mapcheck.proofs.Tried.{map_tried, has_header, has_sizes, accepted_sizes}
 use Rattle.striking.proofs.Judged.{map_refused, road_unknown, road_struck}
 use Rattle.striking.proofs.strike.Goals as goal
+use Rattle.striking.proofs.strike.Goals.{In_ok-check_map, After-sizes_of-sizes, After-is_unknown}
 
-module _ (map : List ℕ) (sizes : Sizes) (accepted : AcceptedMap map)
-    (read : (sizes.junctions ≡ junction_count map) × (sizes.roads ≡ road_count map) × (sizes.names ≡ name_bytes map)) where
-  sized : HasSizes map sizes
-  sized = has_sizes _ _ (accepted_sizes _ accepted) read
+pub returns-in_err-check_map : goal.returns-in_err-check_map
+returns-in_err-check_map c =
+    let p = err_from_is_err_and c.from_residual.result c.from_residual.ensures.1 in
+    rw (p.1, p.2) (map_refused _ _ _ (map_tried c.args.map.now (Err c.in_err-check_map.field-0.0) c.in_err-check_map.ensures))
 
-  -- what is judged of the road
-  judged : (road : ℕ) {unknown : Bool} → unknown ≡ outside 1 sizes.roads road → outside 1 (road_count map) road ≡ unknown
-  judged road is = rw (← read.1) (sym is)
-
-  known : (road : ℕ) {unknown : Bool} → unknown ≡ outside 1 sizes.roads road → unknown ≡ false → Within 1 (road_count map) road
-  known road is inside = within (judged road is ∙ inside)
-
-pub returns-in-Refused : goal.returns-in-Refused
-returns-in-Refused c = map_refused _ _ _ (map_tried c.args.map.now (Check.Refused c.in-Refused.why) c.in-Refused.ensures)
+-- the map passed the check
+accepted : (c : In_ok-check_map) → AcceptedMap c.args.map.now
+accepted c = map_tried _ (Ok tt) c.in_ok-check_map.ensures
 
 pub sizes_of-sizes-requires : goal.sizes_of-sizes-requires
-sizes_of-sizes-requires c = has_header _ (accepted_sizes _ (map_tried _ Check.Passed c.in_default.ensures))
+sizes_of-sizes-requires c = has_header _ (accepted_sizes _ (accepted (goal.at.sizes_of-sizes-requires c).In_ok-check_map))
+
+-- so it has the counts that were read
+sized : (c : After-sizes_of-sizes) → HasSizes c.args.map.now c.sizes_of-sizes.result
+sized c = has_sizes _ _ (accepted_sizes _ (map_tried _ (Ok tt) c.in_ok-check_map.ensures)) c.sizes_of-sizes.ensures
+
+-- and the road is judged as the definition judges it
+judged : (c : After-is_unknown) → outside 1 (road_count c.args.map.now) c.args.road ≡ c.is_unknown.result
+judged c = rw (← c.sizes_of-sizes.ensures.1) (sym c.is_unknown.ensures)
 
 pub returns-then-is_unknown : goal.returns-then-is_unknown
 returns-then-is_unknown c =
-    let accepted : AcceptedMap c.args.map.now = map_tried _ Check.Passed c.in_default.ensures in
-    road_unknown _ _ accepted (judged _ _ accepted c.sizes_of-sizes.ensures c.args.road c.is_unknown.ensures ∙ c.if-is_unknown.true)
+    let place = goal.at.returns-then-is_unknown c in
+    road_unknown _ _ (accepted place.In_ok-check_map) (judged place.After-is_unknown ∙ c.if-is_unknown.true)
 
-pub road_from-from-requires-clause-has_sizes : goal.road_from-from-requires-clause-has_sizes
-road_from-from-requires-clause-has_sizes c = sized _ _ (map_tried _ Check.Passed c.in_default.ensures) c.sizes_of-sizes.ensures
+pub invariant_of-before : goal.invariant_of-before
+invariant_of-before c = record { has_sizes = sized (goal.at.invariant_of-before c).After-sizes_of-sizes }
 
-pub road_from-from-requires-clause-le_r : goal.road_from-from-requires-clause-le_r
-road_from-from-requires-clause-le_r c =
-    let in_map = known _ _ (map_tried _ Check.Passed c.in_default.ensures) c.sizes_of-sizes.ensures c.args.road c.is_unknown.ensures c.if-is_unknown.false in
+pub road_from-from-requires : goal.road_from-from-requires
+road_from-from-requires c =
+    let in_map = within (judged (goal.at.road_from-from-requires c).After-is_unknown ∙ c.if-is_unknown.false) in
     (in_map.above, omega arith)
 
-pub to_at-requires : goal.to_at-requires
-to_at-requires c =
-    (known _ _ (map_tried _ Check.Passed c.in_default.ensures) c.sizes_of-sizes.ensures c.args.road c.is_unknown.ensures c.if-is_unknown.false).above
+pub road_at-requires : goal.road_at-requires
+road_at-requires c = (within (judged (goal.at.road_at-requires c).After-is_unknown ∙ c.if-is_unknown.false)).above
 
 pub put_word-requires : goal.put_word-requires
 put_word-requires c =
-    let accepted : AcceptedMap c.args.map.now = map_tried _ Check.Passed c.in_default.ensures in
-    let in_map = known _ _ accepted c.sizes_of-sizes.ensures c.args.road c.is_unknown.ensures c.if-is_unknown.false in
-    let size = sized _ _ accepted c.sizes_of-sizes.ensures in
-    omega arith
+    let place = goal.at.put_word-requires c in
+    omega (arith, within (judged place.After-is_unknown ∙ c.if-is_unknown.false), sized place.After-sizes_of-sizes)
 
 pub returns : goal.returns
 returns c =
-    let accepted : AcceptedMap c.args.map.now = map_tried _ Check.Passed c.in_default.ensures in
-    road_struck _ _ accepted (judged _ _ accepted c.sizes_of-sizes.ensures c.args.road c.is_unknown.ensures ∙ c.if-is_unknown.false)
+    let place = goal.at.returns c in
+    road_struck _ _ (accepted place.In_ok-check_map) (judged place.After-is_unknown ∙ c.if-is_unknown.false)
     c.put_word.ensures
     (omega arith)
     (omega arith)
