@@ -10,7 +10,7 @@ use lib.Dec.{T}
 use Rattle.booleans.proofs.Tests.{cases, and_true, T_true, true_T}
 use Rattle.states.specs.declared.State.{State}
 use Rattle.moves.specs.declared.Move.{Move}
-use Rattle.moves.specs.declared.Step.{Step}
+use Rattle.std.specs.Prelude.{Ok}
 use Rattle.moves.specs.Trip.{Trip, junctions_in}
 use Rattle.moves.specs.Moves.{offers, offered, after, judged, stepped}
 use Rattle.states.specs.States.{legal, covers}
@@ -55,14 +55,14 @@ module _ (trip : Trip) where
       (cases (offers trip s m && legal trip.order (after trip s m)))
 
   -- a move that is offered and legal is one that the step takes
-  pub moved : (s : State) (m : Move) → offers trip s m ≡ true → legal trip.order (after trip s m) ≡ true → stepped trip s m ≡ Step.Moved (after trip s m)
+  pub moved : (s : State) (m : Move) → offers trip s m ≡ true → legal trip.order (after trip s m) ≡ true → stepped trip s m ≡ Ok (after trip s m)
   moved s m o l = rw (o, l)
 
-  pub moved_from : (s : State) (m : Move) {t : State} → stepped trip s m ≡ Step.Moved t
+  pub moved_from : (s : State) (m : Move) {t : State} → stepped trip s m ≡ Ok t
       → (offers trip s m ≡ true) × (legal trip.order (after trip s m) ≡ true) × (t ≡ after trip s m)
   moved_from s m {t} e = by_tests (offers trip s m) (legal trip.order (after trip s m)) refl refl e
     where
-      by_tests : (o l : Bool) → offers trip s m ≡ o → legal trip.order (after trip s m) ≡ l → judged o l (after trip s m) ≡ Step.Moved t
+      by_tests : (o l : Bool) → offers trip s m ≡ o → legal trip.order (after trip s m) ≡ l → judged o l (after trip s m) ≡ Ok t
           → (offers trip s m ≡ true) × (legal trip.order (after trip s m) ≡ true) × (t ≡ after trip s m)
       by_tests true true p q e = (p, q, cc)
       by_tests true false p q e = let never : ◌≡◌ {A = ℕ} 0 1 = cc in absurd (omega arith)

@@ -1,5 +1,6 @@
 -- The laws of the moves.
 pub mod Trips
+pub mod Opened
 pub mod Stepped
 pub mod Monotone
 pub mod Offered

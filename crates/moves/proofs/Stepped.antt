@@ -2,16 +2,16 @@
 use mathlib.Core.Path.{◌≡◌, refl, sym, ap}
 use mathlib.Core.Bool.{Bool, true, false, ◌&&◌}
 use mathlib.Core.List.{List}
+use mathlib.Core.Logic.{⊎_elim}
 use Prim.Native.Nat.{ℕ, ◌≤◌}
 use borrow.Author.Tests.{eq-eqb, ne_eqb, leb-true}
 use lib.Dec.{leb, eqb}
-use Rattle.booleans.proofs.Tests.{and_true}
+use Rattle.booleans.proofs.Tests.{cases, and_true}
 use Rattle.roadmap.specs.Format.{road_count}
 use Rattle.states.specs.declared.State.{State}
 use Rattle.states.specs.States.{legal}
 use Rattle.moves.specs.declared.Move.{Move}
 use Rattle.moves.specs.declared.Run.{Run}
-use Rattle.moves.specs.declared.Step.{Step}
 use Rattle.moves.specs.Trip.{Stretch, Trip, none_banned, road_in, roads_in}
 use Rattle.moves.specs.Moves.{move, leaves, may_pause, offers, driven, paused, after, judged, stepped}
 use Rattle.moves.specs.Runs.{stretch_in, Tied}
@@ -46,22 +46,19 @@ pub driven_in : {map : List ℕ} {banned : ℕ → Bool} {run : Run} {trip : Tri
     → driven (stretch_in map none_banned run r) s ≡ driven (road_in trip r) s
 driven_in tied s r range = ap (λ (road : Stretch). driven road s) (sym (tied.road r range.0 range.1))
 
--- what the code finds of a drive and of a pause is what the definition says
-module _ {map : List ℕ} {banned : ℕ → Bool} {run : Run} {trip : Trip} (tied : Tied map banned run trip) (s : State) (number : ℕ) where
-  pub drive_foreign : leaves trip s.junction number ≡ false → Step.Foreign ≡ stepped trip s (move 1 number)
-  drive_foreign e = rw (stepped_drive trip s (move 1 number) refl, e)
+-- what a drive and a pause come to, by the map and the run's order
+module _ {map : List ℕ} {banned : ℕ → Bool} {run : Run} {trip : Trip} (tied : Tied map banned run trip) (s : State) where
+  pub drive_by_map : (r : ℕ) →
+      stepped trip s (move 1 r)
+      ≡ judged (leaves trip s.junction r) (legal run.order (driven (stretch_in map none_banned run r) s)) (driven (stretch_in map none_banned run r) s)
+  drive_by_map r =
+      ⊎_elim
+      (λ (leaving : leaves trip s.junction r ≡ true).
+      rw (stepped_drive trip s (move 1 r) refl, leaving, tied.order, driven_in tied s r (leaves_range tied s.junction r leaving)))
+      (λ (foreign : leaves trip s.junction r ≡ false). rw (stepped_drive trip s (move 1 r) refl, foreign))
+      (cases (leaves trip s.junction r))
 
-  pub drive_told : {reached : State} → leaves trip s.junction number ≡ true → reached ≡ driven (road_in trip number) s →
-      judged true (legal run.order reached) reached ≡ stepped trip s (move 1 number)
-  drive_told {reached} e is = rw (stepped_drive trip s (move 1 number) refl, e, tied.order, is)
-
-  module _ (kind : ℕ) (not-1 : kind ≡ 1 → ⊥) where
-    pub pause_elsewhere : (number ≡ s.junction → ⊥) → Step.Foreign ≡ stepped trip s (move kind number)
-    pause_elsewhere other = rw (stepped_pause trip s (move kind number) not-1, ne_eqb _ _ other)
-
-    pub pause_foreign : number ≡ s.junction → may_pause trip s kind ≡ false → Step.Foreign ≡ stepped trip s (move kind number)
-    pause_foreign here e = rw (stepped_pause trip s (move kind number) not-1, eq-eqb _ _ here, e)
-
-    pub pause_told : {reached : State} → number ≡ s.junction → may_pause trip s kind ≡ true → reached ≡ paused kind run.order.rules s →
-        judged true (legal run.order reached) reached ≡ stepped trip s (move kind number)
-    pause_told {reached} here e is = rw (stepped_pause trip s (move kind number) not-1, eq-eqb _ _ here, e, tied.order, is)
+  pub pause_by_map : (m : Move) → (m.kind ≡ 1 → ⊥) →
+      stepped trip s m
+      ≡ judged (eqb m.number s.junction && may_pause trip s m.kind) (legal run.order (paused m.kind run.order.rules s)) (paused m.kind run.order.rules s)
+  pause_by_map m not-1 = rw (stepped_pause trip s m not-1, tied.order)

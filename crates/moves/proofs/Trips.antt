@@ -1,23 +1,25 @@
 -- The record of a run has the map's roads and car parks at their numbers. Assumes nothing.
 use mathlib.Core.Path.{◌≡◌, ◌∙◌, refl, sym, ap, ap₂}
-use mathlib.Core.Bool.{Bool, true, false}
+use mathlib.Core.Bool.{Bool, true, false, ◌&&◌}
 use mathlib.Core.List.{List, ◌∷◌}
 use mathlib.Core.Logic.{⊎_elim}
 use Prim.Native.Nat.{ℕ, zero, suc, ◌+◌, ◌-◌, ◌≤◌, ◌<◌}
 use native.Mathlib.Omega.{arith}
 use native.Mathlib.Nat.{add-zero, eq-or-lt_of_le}
-use borrow.Author.Tests.{le-leb, lt-leb, eqb-true, eqb-false}
-use lib.Dec.{eqb}
+use borrow.Author.Tests.{le-leb, leb-true, eqb-true, eqb-false}
+use lib.Dec.{leb, eqb}
 use lib.ListN.{length, get_or, set}
-use Rattle.booleans.proofs.Tests.{cases}
+use Rattle.booleans.proofs.Tests.{cases, and_true}
 use Rattle.roadmap.specs.Format.{junction_count, road_count, car_park, road_from, road_to}
 use Rattle.driving.specs.declared.Order.{Order}
+use Rattle.driving.specs.Hours.{first_pause, last_pause, allows_pause}
+use Rattle.states.specs.declared.State.{State}
 use Rattle.moves.specs.declared.Run.{Run}
 use Rattle.moves.specs.Trip.{Stretch, Trip, road_time, stretch_of, counted, trip_of, no_stretch, road_in, park_in, roads_in, junctions_in}
 use Rattle.moves.specs.Bans.{AgreeOn}
-use Rattle.moves.specs.Moves.{leaves}
+use Rattle.moves.specs.Moves.{leaves, may_pause}
 use Rattle.moves.specs.Struck.{struck_stretch, struck_in}
-use Rattle.moves.specs.Runs.{trip_in, stretch_in, Unstruck, Tied}
+use Rattle.moves.specs.Runs.{trip_in, stretch_in, Unstruck, Tied, InRange}
 use Rattle.moves.proofs.Struck.{struck_roads, struck_parks, struck_order, struck_other, struck_own}
 
 pub counted_length : {A : Type 0} (f : ℕ → A) (k n : ℕ) → length (counted f k n) ≡ n
@@ -127,13 +129,24 @@ same_bans map p q run agree =
     ap (λ (roads : List Stretch). struck_in run.struck (record { roads = roads; parks = (trip_of map p run.order).parks; order = run.order }))
     (counted_same _ _ 1 (road_count map) (λ r low high. ap (λ (b : Bool). record { from = road_from map r; to = road_to map r; seconds = road_time map r; banned = b }) (agree r low (omega arith))))
 
--- which roads leave a junction, by the map
+-- which roads leave a junction, and which pauses the rules offer there, by the map
 module _ {map : List ℕ} {banned : ℕ → Bool} {run : Run} {trip : Trip} (tied : Tied map banned run trip) where
-  pub leaves_zero : (j r : ℕ) → r < 1 → leaves trip j r ≡ false
-  leaves_zero j r h = rw (lt-leb _ _ h)
-
-  pub leaves_beyond : (j r : ℕ) → 1 ≤ r → road_count map < r → leaves trip j r ≡ false
-  leaves_beyond j r low h = rw (le-leb _ _ low, tied.roads, lt-leb _ _ h)
-
   pub leaves_road_lem : (j r : ℕ) → 1 ≤ r → r ≤ road_count map → leaves trip j r ≡ eqb (road_from map r) j
   leaves_road_lem j r low high = rw (le-leb _ _ low, tied.roads, le-leb _ _ high, tied.road r low high)
+
+-- a number that is no road's leaves no junction
+pub leaves_by_map : (map : List ℕ) (banned : ℕ → Bool) (run : Run) (j r : ℕ)
+    → leaves (trip_in map banned run) j r ≡ ((leb 1 r && leb r (road_count map)) && eqb (road_from map r) j)
+leaves_by_map map banned run j r =
+    ⊎_elim
+    (λ (within : (leb 1 r && leb r (road_count map)) ≡ true).
+    let range = and_true {a = leb 1 r} within in
+    rw within (leaves_road_lem (run_tied map banned run) j r (leb-true _ _ range.0) (leb-true _ _ range.1)))
+    (λ (beyond : (leb 1 r && leb r (road_count map)) ≡ false). rw ((run_tied map banned run).roads, beyond))
+    (cases (leb 1 r && leb r (road_count map)))
+
+pub may_pause_by_map : (map : List ℕ) (banned : ℕ → Bool) (run : Run) (s : State) (kind : ℕ) → InRange (junction_count map) run.order s
+    → may_pause (trip_in map banned run) s kind
+    ≡ ((leb first_pause kind && leb kind last_pause) && (eqb (car_park map s.junction) 1 && allows_pause run.order.rules s.figures kind))
+may_pause_by_map map banned run s kind range =
+    let tied = run_tied map banned run in rw (tied.park s.junction range.low range.high, tied.order)

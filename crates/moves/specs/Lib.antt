@@ -4,6 +4,7 @@ pub mod Given
 pub mod Struck
 pub mod Moves
 pub mod Runs
+pub mod OpenRuns
 pub mod Compared
 pub mod RunTests
 pub mod Opened

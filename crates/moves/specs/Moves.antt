@@ -1,11 +1,11 @@
 -- The moves: which are offered, and what they lead to. Document 01, "Moves", and document 02, P5 and P7. Assumes nothing.
-use Rattle.std.specs.Prelude.{Bool, true, false, ◌&&◌, List, [], ◌∷◌, ◌++◌, ℕ, ◌+◌, leb, eqb}
+use Rattle.std.specs.Prelude.{Result, Ok, Err, Bool, true, false, ◌&&◌, List, [], ◌∷◌, ◌++◌, ℕ, ◌+◌, leb, eqb}
 use Rattle.driving.specs.declared.Rules.{Rules}
 use Rattle.driving.specs.Hours.{driven_on, first_pause, last_pause, pause_count, pause_seconds, allows_pause, cleared}
 use Rattle.states.specs.declared.State.{State}
 use Rattle.states.specs.States.{legal}
 use Rattle.moves.specs.declared.Move.{Move}
-use Rattle.moves.specs.declared.Step.{Step}
+use Rattle.moves.specs.declared.Fault.{Fault}
 use Rattle.moves.specs.Trip.{Stretch, Trip, counted, road_in, park_in, roads_in}
 
 -- kinds: 1 drive, 2 break, 3 rest, 4 first part, 5 second part, 6 weekly; the number is the road's, or the pausing junction's
@@ -75,10 +75,10 @@ offered trip s =
     ++ chosen (may_pause trip s) (λ kind. move kind s.junction) (counted (λ k. k) first_pause pause_count)
 
 -- one move: not offered, not legal, or the state after it
-abbrev pub judged : Bool → Bool → State → Step
-judged false legal s = Step.Foreign
-judged true false s = Step.Overrun
-judged true true s = Step.Moved s
+abbrev pub judged : Bool → Bool → State → Result State Fault
+judged false legal s = Err Fault.Foreign
+judged true false s = Err Fault.Overrun
+judged true true s = Ok s
 
-abbrev pub stepped : Trip → State → Move → Step
+abbrev pub stepped : Trip → State → Move → Result State Fault
 stepped trip s m = judged (offers trip s m) (legal trip.order (after trip s m)) (after trip s m)

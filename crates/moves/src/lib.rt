@@ -1,21 +1,25 @@
 // Moves: the drive and the pauses, over a map's bytes.
 #![tactic(auto)]
 
+mod given;
+
 ghost use Rattle.std.specs.Prelude.{◌≡◌, Bool, true, ℕ, ◌≤◌, T, eqb};
 ghost use Rattle.theory.specs.Figures.{none_above};
 ghost use Rattle.roadmap.specs.Format.{junction_count, road_count};
 ghost use Rattle.driving.specs.Accepted.{SoundRules};
-ghost use Rattle.driving.specs.Hours.{first_pause, last_pause, wheel_figures, highest_limits};
+ghost use Rattle.driving.specs.Hours.{wheel_figures, highest_limits};
+ghost use Rattle.driving.specs.Pauses.{pause_number};
 ghost use Rattle.states.specs.States.{legal};
 ghost use Rattle.moves.specs.Trip.{road_time, none_banned};
-ghost use Rattle.moves.specs.Bans.{listed_in};
 ghost use Rattle.moves.specs.Moves.{move, driven, paused, judged, stepped, leaves, may_pause};
-ghost use Rattle.moves.specs.Runs.{Accepted, trip_in, end_when, stretch_in, InRange, RangeIn};
+ghost use Rattle.moves.specs.Runs.{trip_in, end_when, stretch_in, InRange, RangeIn};
+ghost use Rattle.moves.specs.OpenRuns.{listed_trip};
 ghost use Rattle.moves.specs.Given.{given_of};
 ghost use Rattle.moves.specs.Opened.{OpenedSays};
 
-use driving::{Order, Rules};
-use replies::{Check, Refusal};
+use driving::{Order, Pause};
+pub use given::OpenRun;
+use replies::Refusal;
 use roadmap::Sizes;
 use seconds::Clock;
 use states::State;
@@ -40,186 +44,148 @@ impl Move {
     pub const DRIVE: u32 = 1;
 }
 
-// What a move comes to: it is not offered, its result is not legal, or it leads to a state.
-#[derive(Clone, Copy)]
-pub enum Step {
+// Why a move leads to no state: it is not offered, or its result is not legal.
+#[derive(Clone, Copy, PartialEq, Eq)]
+pub enum Fault {
     Foreign,
     Overrun,
-    Moved(State),
 }
 
 // The seconds that road r takes.
-pub fn seconds_of(map: &[u8], run: Run, r: u32) -> u32
-    requires accepted { Accepted map.now run }
-    requires le_r { (1 ≤ r) × (r ≤ road_count map.now) }
-    ensures { (result ≡ road_time map.now r) × (result ≤ 1440000) }
+pub fn seconds_of(run: &OpenRun<'_>, r: u32) -> u32
+    requires { (1 ≤ r) × (r ≤ road_count run.now.map.now) }
+    ensures { (result ≡ road_time run.now.map.now r) × (result ≤ 1440000) }
 {
-    let sizes = run.sizes;
-    let metres = roadmap::road_metres(map, sizes, r);
-    let speed = roadmap::road_speed(map, sizes, r);
-    roadmap::road_seconds(metres, speed)
+    let map = run.road_map();
+    roadmap::road_seconds(map.road_metres(r), map.road_speed(r))
 }
 
 // Where road r leads: a struck one back to where it begins.
-fn end_of(map: &[u8], run: Run, r: u32) -> u32
-    requires accepted { Accepted map.now run }
-    requires le_r { (1 ≤ r) × (r ≤ road_count map.now) }
-    ensures { result ≡ end_when (eqb r run.struck) map.now r }
+fn end_of(run: &OpenRun<'_>, r: u32) -> u32
+    requires { (1 ≤ r) × (r ≤ road_count run.now.map.now) }
+    ensures { result ≡ end_when (eqb r run.now.about.struck) run.now.map.now r }
 {
-    if r == run.struck {
-        return roadmap::road_from(map, run.sizes, r);
+    let map = run.road_map();
+    if r == run.about.struck {
+        map.road_from(r)
+    } else {
+        map.road_to(r)
     }
-    roadmap::road_to(map, run.sizes, r)
 }
 
 // The state after driving road r from this state on, by the road's end and its time alone.
-pub fn after_drive(map: &[u8], run: Run, state: State, r: u32) -> State
-    requires accepted { Accepted map.now run }
+pub fn after_drive(run: &OpenRun<'_>, state: State, r: u32) -> State
     requires clock_bound { (state.clock.0 ≤ 2000000000) × T (none_above (wheel_figures state.figures) highest_limits) }
-    requires le_r { (1 ≤ r) × (r ≤ road_count map.now) }
-    ensures { result ≡ driven (stretch_in map.now none_banned run r) state }
+    requires le_r { (1 ≤ r) × (r ≤ road_count run.now.map.now) }
+    ensures { result ≡ driven (stretch_in run.now.map.now none_banned run.now.about r) state }
 {
-    let to = end_of(map, run, r);
-    let time = seconds_of(map, run, r);
-    let figures = driving::driven(state.figures, time);
+    let time = seconds_of(run, r);
     State {
-        junction: to,
+        junction: end_of(run, r),
         clock: Clock(state.clock.0 + time),
-        figures,
+        figures: driving::driven(state.figures, time),
     }
 }
 
 // The state after a pause of this kind.
-pub fn after_pause(run: Run, state: State, kind: u32) -> State
-    requires sound_rules { SoundRules run.order.rules × (state.clock.0 ≤ 2000000000) }
-    requires first_pause_le_kind { (first_pause ≤ kind) × (kind ≤ last_pause) }
-    ensures { result ≡ paused kind run.order.rules state }
+pub fn after_pause(about: Run, state: State, pause: Pause) -> State
+    requires { SoundRules about.order.rules × (state.clock.0 ≤ 2000000000) }
+    ensures { result ≡ paused (pause_number pause) about.order.rules state }
 {
-    let time = driving::pause_time(run.order.rules, kind);
-    let figures = driving::cleared(state.figures, kind);
+    let time = driving::pause_time(about.order.rules, pause);
     State {
-        junction: state.junction,
         clock: Clock(state.clock.0 + time.0),
-        figures,
+        figures: driving::cleared(state.figures, pause),
+        ..state
     }
 }
 
 // Whether road r, any number, leaves junction j, whichever roads are banned.
-pub fn leaves_road(map: &[u8], run: Run, j: u32, r: u32) -> bool
-    requires { Accepted map.now run }
-    ensures { (banned : ℕ → Bool) → result ≡ leaves (trip_in map.now banned run) j r }
+#[tactic(auto, using(crate::proofs::Trips::leaves_by_map))]
+pub fn leaves_road(run: &OpenRun<'_>, j: u32, r: u32) -> bool
+    ensures { (banned : ℕ → Bool) → result ≡ leaves (trip_in run.now.map.now banned run.now.about) j r }
 {
-    let sizes = run.sizes;
-    if r < 1 {
-        return false;
-    }
-    if sizes.roads < r {
-        return false;
-    }
-    roadmap::road_from(map, sizes, r) == j
+    let map = run.road_map();
+    1 <= r && r <= map.sizes.roads && map.road_from(r) == j
 }
 
 // Whether the rules offer a pause of this kind, any number, in a state, whichever roads are banned.
-pub fn may_pause(map: &[u8], run: Run, state: State, kind: u32) -> bool
-    requires accepted { Accepted map.now run }
-    requires in_range { InRange (junction_count map.now) run.order state }
-    ensures { (banned : ℕ → Bool) → result ≡ may_pause (trip_in map.now banned run) state kind }
+#[tactic(auto, using(crate::proofs::Trips::may_pause_by_map))]
+pub fn may_pause(run: &OpenRun<'_>, state: State, kind: u32) -> bool
+    requires { InRange (junction_count run.now.map.now) run.now.about.order state }
+    ensures { (banned : ℕ → Bool) → result ≡ may_pause (trip_in run.now.map.now banned run.now.about) state kind }
 {
-    let sizes = run.sizes;
-    if kind < Rules::FIRST_PAUSE {
+    let Ok(pause) = Pause::try_from(kind) else {
         return false;
-    }
-    if Rules::LAST_PAUSE < kind {
-        return false;
-    }
-    if roadmap::car_park(map, sizes, state.junction) != 1 {
-        return false;
-    }
-    driving::allows_pause(run.order.rules, state.figures, kind)
+    };
+    run.road_map().car_park(state.junction) == 1
+        && driving::allows_pause(run.about.order.rules, state.figures, pause)
 }
 
 // What an offered move comes to, by the state after it.
-fn judge(order: Order, state: State) -> Step
+fn judge(order: Order, state: State) -> Result<State, Fault>
     ensures { result ≡ judged true (legal order state) state }
 {
     if states::is_legal(order, state) {
-        Step::Moved(state)
+        Ok(state)
     } else {
-        Step::Overrun
+        Err(Fault::Overrun)
     }
 }
 
-// The drive of road r, any number. `bans` lists the banned roads: it is there for the contract, and the
-// drive asks for nothing in it yet.
-pub fn drive(map: &[u8], bans: &[u32], run: Run, state: State, r: u32) -> Step
-    requires accepted { Accepted map.now run }
-    requires range_in { RangeIn (trip_in map.now (listed_in bans.now) run) state }
-    ensures { result ≡ stepped (trip_in map.now (listed_in bans.now) run) state (move 1 r) }
+// The drive of road r, any number.
+#[tactic(auto, using(crate::proofs::Trips::run_tied, crate::proofs::Rising::drives_on, crate::proofs::Stepped::leaves_range))]
+pub fn drive(run: &OpenRun<'_>, state: State, r: u32) -> Result<State, Fault>
+    requires { RangeIn (listed_trip run.now) state }
+    ensures { result ≡ stepped (listed_trip run.now) state (move 1 r) }
 {
-    let here = state.junction;
-    if leaves_road(map, run, here, r) {
-        let order = run.order;
-        let reached = after_drive(map, run, state, r);
-        return judge(order, reached);
+    if !leaves_road(run, state.junction, r) {
+        return Err(Fault::Foreign);
     }
-    Step::Foreign
+    judge(run.about.order, after_drive(run, state, r))
 }
 
 // A pause, of any kind but a drive's and at a junction of any number, whichever roads are banned.
-pub fn pause(map: &[u8], run: Run, state: State, m: Move) -> Step
-    requires accepted { Accepted map.now run }
-    requires in_range { InRange (junction_count map.now) run.order state }
+pub fn pause(run: &OpenRun<'_>, state: State, m: Move) -> Result<State, Fault>
+    requires in_range { InRange (junction_count run.now.map.now) run.now.about.order state }
     requires not_a_drive { m.kind ≡ 1 → ⊥ }
-    ensures { (banned : ℕ → Bool) → result ≡ stepped (trip_in map.now banned run) state m }
+    ensures { (banned : ℕ → Bool) → result ≡ stepped (trip_in run.now.map.now banned run.now.about) state m }
 {
-    let kind = m.kind;
-    if m.number != state.junction {
-        return Step::Foreign;
+    if m.number != state.junction || !may_pause(run, state, m.kind) {
+        return Err(Fault::Foreign);
     }
-    if !may_pause(map, run, state, kind) {
-        return Step::Foreign;
-    }
-    let order = run.order;
-    let reached = after_pause(run, state, kind);
-    judge(order, reached)
+    let pause = Pause::numbered(m.kind);
+    judge(run.about.order, after_pause(run.about, state, pause))
 }
 
 // Any move, as a sheet may hold it.
-pub fn take_move(map: &[u8], bans: &[u32], run: Run, state: State, m: Move) -> Step
-    requires accepted { Accepted map.now run }
-    requires range_in { RangeIn (trip_in map.now (listed_in bans.now) run) state }
-    ensures { result ≡ stepped (trip_in map.now (listed_in bans.now) run) state m }
+#[tactic(auto, using(crate::proofs::Trips::run_tied, crate::proofs::Rising::range_in))]
+pub fn take_move(run: &OpenRun<'_>, state: State, m: Move) -> Result<State, Fault>
+    requires { RangeIn (listed_trip run.now) state }
+    ensures { result ≡ stepped (listed_trip run.now) state m }
 {
-    if m.kind == Move::DRIVE {
-        return drive(map, bans, run, state, m.number);
+    match m.kind {
+        Move::DRIVE => drive(run, state, m.number),
+        _ => pause(run, state, m),
     }
-    pause(map, run, state, m)
 }
 
-// A run whose map and order are accepted, or why there is none.
-#[derive(Clone, Copy)]
-pub enum Opened {
-    Ready(Run),
-    Refused(Refusal),
-}
-
-// Refusals 1 to 11.
-pub fn open_run(map: &[u8], order: &[u8]) -> Opened
+// A run whose map and order are accepted; otherwise refusals 1 to 11.
+pub fn open_run<'a>(map: &'a [u8], order: &[u8]) -> Result<OpenRun<'a>, Refusal>
     ensures { OpenedSays (given_of map.now order.now) result }
 {
-    let map_check = mapcheck::check_map(map);
-    if let Check::Refused(why) = map_check {
-        return Opened::Refused(why);
-    }
+    mapcheck::check_map(map)?;
     let sizes = roadmap::sizes_of(map);
-    let order_check = driving::check_order(order, sizes.junctions);
-    if let Check::Refused(why) = order_check {
-        return Opened::Refused(why);
-    }
-    let decoded = driving::read_order(order);
-    Opened::Ready(Run {
+    driving::check_order(order, sizes.junctions)?;
+    let about = Run {
         sizes,
-        order: decoded,
+        order: driving::read_order(order),
         struck: 0,
+    };
+    Ok(OpenRun {
+        map,
+        closed: &[],
+        bans: &[],
+        about,
     })
 }

@@ -6,9 +6,10 @@ use Prim.Native.Nat.{ℕ, ◌≤◌, ◌<◌}
 use native.Mathlib.Omega.{arith}
 use borrow.Author.Tests.{ne_eqb, lt-ltb, le-ltb}
 use lib.ListN.{length}
+use Rattle.std.specs.Prelude.{Result, Ok, Err}
 use Rattle.replies.specs.declared.Refusal.{Refusal}
 use Rattle.replies.specs.declared.Refusal.TheVariants.{ShortSheet}
-use Rattle.replies.specs.declared.Timing.{Timing}
+use Rattle.replies.specs.declared.Timed.{Timed}
 use Rattle.replies.specs.First.{◌at◌, first_of, NoneFits, Refuses}
 use Rattle.replies.specs.Told.{succeeded, told_refusal, told_timing}
 use Rattle.replies.proofs.First.{none_fits, stops_at, passed_over, refusal_number}
@@ -21,7 +22,6 @@ use Rattle.sheets.specs.Sheet.{heading_for, heading_of, sheet_needed, sheet_afte
 use Rattle.sheets.specs.Written.{rows_put}
 use Rattle.sheets.proofs.Writing.{heading_last}
 use Rattle.sheets.proofs.Reading.{length_rows_of}
-use Rattle.retiming.specs.declared.Walked.{Walked}
 use Rattle.retiming.specs.Walk.{Walk, arrival_reached}
 use Rattle.retiming.specs.Retiming.{moves_on, timing, sheet_tests, retimed_to, retiming_reply, Retimed}
 use Rattle.retiming.specs.Parts.{SheetSays, rows_reached, RetimedRun}
@@ -36,12 +36,12 @@ module _ (trip : Trip) (sheet before : List ℕ) where
   abbrev timed : Walk
   timed = timing false trip sheet
 
-  pub retimed_refused : (why : Refusal) → SheetSays false trip sheet (Walked.Refused why) → RetimedRun trip sheet before before (Timing.Refused why)
+  pub retimed_refused : (why : Refusal) → SheetSays false trip sheet (Err why) → RetimedRun trip sheet before before (Err why)
   retimed_refused why says =
       record { reply = sym (says _ _); bytes = rw (ne_eqb (told_refusal why).number 0 (λ e. omega (arith, refusal_number why))) refl }
 
-  module _ (s : State) (ended : SheetSays false trip sheet (Walked.Reached s)) (given : Heading) (is : given ≡ heading_of sheet) (needed : ℕ) (counts : needed ≡ sheet_needed given.moves) where
-    pub retimed_short : length before < needed → RetimedRun trip sheet before before (Timing.Refused (ShortSheet needed))
+  module _ (s : State) (ended : SheetSays false trip sheet (Ok s)) (given : Heading) (is : given ≡ heading_of sheet) (needed : ℕ) (counts : needed ≡ sheet_needed given.moves) where
+    pub retimed_short : length before < needed → RetimedRun trip sheet before before (Err (ShortSheet needed))
     retimed_short short =
         let needs : length before < sheet_needed (moves_on sheet) = rw (counts, is) at short in
         record {
@@ -59,7 +59,7 @@ module _ (trip : Trip) (sheet before : List ℕ) where
 
     pub retimed_written : needed ≤ length before → (after : List ℕ) →
         after ≡ with_heading (rows_put 0 (rows_reached timed) before) (retimed_heading given s) →
-        RetimedRun trip sheet before after (Timing.Timed given.moves s.clock)
+        RetimedRun trip sheet before after (Ok (record { moves = given.moves; arrival = s.clock }))
     unfolding first_of
     retimed_written fits after written =
         let enough : sheet_needed (moves_on sheet) ≤ length before = rw (counts, is) at fits in
@@ -76,7 +76,7 @@ module _ (trip : Trip) (sheet before : List ℕ) where
 
 -- and of what a run is given
 module _ (given : Given) (sheet before : List ℕ) where
-  pub retimed_unopened : (why : Refusal) → Refuses (run_tests given) why → Retimed given sheet before before (Timing.Refused why)
+  pub retimed_unopened : (why : Refusal) → Refuses (run_tests given) why → Retimed given sheet before before (Err why)
   retimed_unopened why says =
       let told = says _ _ in
       record {
@@ -84,7 +84,7 @@ module _ (given : Given) (sheet before : List ℕ) where
         bytes = rw (told, ne_eqb (told_refusal why).number 0 (λ e. omega (arith, refusal_number why))) refl;
       }
 
-  pub retimed_opened : {trip : Trip} {after : List ℕ} {answer : Timing} → trip ≡ trip_from given → NoneFits (run_tests given) →
+  pub retimed_opened : {trip : Trip} {after : List ℕ} {answer : Result Timed Refusal} → trip ≡ trip_from given → NoneFits (run_tests given) →
       RetimedRun trip sheet before after answer → Retimed given sheet before after answer
   unfolding trip_of
   retimed_opened {after = after} {answer = answer} is passed run =

@@ -6,6 +6,7 @@ use Prim.Native.Nat.{ℕ, zero, suc, ◌+◌, ◌-◌, ◌≤◌, ◌<◌}
 use native.Mathlib.Omega.{arith}
 use lib.ListN.{length, take, drop, length-take}
 use lib.Seq.{length-take-le}
+use Rattle.std.specs.Prelude.{Ok, Err}
 use Rattle.replies.specs.declared.Refusal.{Refusal}
 use Rattle.states.specs.declared.State.{State}
 use Rattle.moves.specs.Trip.{Trip, junctions_in}
@@ -16,14 +17,13 @@ use Rattle.sheets.specs.declared.Row.{Row}
 use Rattle.sheets.specs.Sheet.{row_at, rows_of, sheet_needed, with_row}
 use Rattle.sheets.specs.Written.{rows_put}
 use Rattle.sheets.proofs.Writing.{none_from, row_behind, length_from}
-use Rattle.retiming.specs.declared.Walked.{Walked}
 use Rattle.retiming.specs.Walk.{Walk, refused, reached, move_of, true_row, recorded, walk}
 use Rattle.retiming.specs.Retiming.{moves_on, timing}
 use Rattle.retiming.specs.Parts.{WalkSays, Ends, last_reached, rows_reached}
 use Rattle.retiming.proofs.Walking.{OneRow, stops, passes, one_row, walk_end, rows_next, says_refused, handed_on, range_moved}
 
 -- a walk that reached a state is that state and its records
-pub reached_is : (w : Walk) (s : State) → WalkSays w (Walked.Reached s) → w ≡ reached s (rows_reached w)
+pub reached_is : (w : Walk) (s : State) → WalkSays w (Ok s) → w ≡ reached s (rows_reached w)
 reached_is (refused number move) s ended = absurd ended
 reached_is (reached t rows) s ended = ap (λ (x : State). reached x rows) (sym ended)
 
@@ -31,12 +31,12 @@ pub ends_is : (start : State) (w : Walk) → Ends w → w ≡ reached (last_reac
 ends_is start (refused number move) ended = absurd ended
 ends_is start (reached t rows) ended = refl
 
-pub says_ends : (w : Walk) (s : State) → WalkSays w (Walked.Reached s) → Ends w
+pub says_ends : (w : Walk) (s : State) → WalkSays w (Ok s) → Ends w
 says_ends (refused number move) s ended = ended
 says_ends (reached t rows) s ended = tt
 
-not_refused : {l : State} {ys : List Row} {w : Walk} (why : Refusal) → w ≡ reached l ys → WalkSays w (Walked.Refused why) → ⊥
-not_refused {l} {ys} why e h = subst (λ (x : Walk). WalkSays x (Walked.Refused why)) e h
+not_refused : {l : State} {ys : List Row} {w : Walk} (why : Refusal) → w ≡ reached l ys → WalkSays w (Err why) → ⊥
+not_refused {l} {ys} why e h = subst (λ (x : Walk). WalkSays x (Err why)) e h
 
 -- the first of the records reached, and the rest
 pub record Cut (x : Row) (w : Walk) (l : State) (ys : List Row) : Type 0 where
@@ -119,10 +119,10 @@ module _ {trip : Trip} {sheet : List ℕ} {moves : ℕ} {last : State} {rows : L
         less : (k : ℕ) → k ≤ moves → moves + 1 - k - 1 ≡ moves + 1 - (k + 1)
         less k more = omega arith
 
-    pub never_refused : k ≤ moves → (why : Refusal) → WalkSays (walk false trip k s (row_at sheet k ∷ [])) (Walked.Refused why) → ⊥
-    never_refused more why h =
+    pub never_refused : k ≤ moves → {row : Row} → row ≡ row_at sheet k → (why : Refusal) → WalkSays (walk false trip k s (row ∷ [])) (Err why) → ⊥
+    never_refused more is why h =
         not_refused why (sym (these more) ∙ on.left)
-        (says_refused false trip k s (row_at sheet k) (rows_of sheet (k + 1) (moves + 1 - (k + 1))) why h)
+        (says_refused false trip k s (row_at sheet k) (rows_of sheet (k + 1) (moves + 1 - (k + 1))) why (rw is at h))
 
     -- all are written where all have been walked over
     pub rewriting_end : moves < k → out ≡ rows_put 0 rows before
@@ -137,10 +137,11 @@ module _ {trip : Trip} {sheet : List ℕ} {moves : ℕ} {last : State} {rows : L
     pub rewriting_length : sheet_needed moves ≤ length before → length out ≡ length before
     rewriting_length fits = ap length on.done ∙ length_from 0 (take (k - 1) rows) before (omega (arith, length-take (k - 1) rows, on.high))
 
-    pub rewriting_next : SoundTrip trip → k ≤ moves → sheet_needed moves ≤ length before → (t : State) → WalkSays (walk false trip k s (row_at sheet k ∷ [])) (Walked.Reached t) →
-        Rewriting trip sheet moves last rows before (k + 1) t (with_row out k (true_row (row_at sheet k) t))
-    rewriting_next sound more fits t h =
-        let handed = handed_on false trip k s (row_at sheet k) t h in
+    pub rewriting_next : SoundTrip trip → k ≤ moves → sheet_needed moves ≤ length before → {row : Row} → row ≡ row_at sheet k →
+        (t : State) → WalkSays (walk false trip k s (row ∷ [])) (Ok t) → {after : List ℕ} → after ≡ with_row out k (true_row row t) →
+        Rewriting trip sheet moves last rows before (k + 1) t after
+    rewriting_next sound more fits is t h written =
+        let handed = handed_on false trip k s (row_at sheet k) t (rw is at h) in
         let rest = cut (true_row (row_at sheet k) t) (walk false trip (k + 1) t (rows_of sheet (k + 1) (moves + 1 - (k + 1)))) last (drop (k - 1) rows)
         (sym (handed.always (rows_of sheet (k + 1) (moves + 1 - (k + 1)))) ∙ sym (these more) ∙ on.left) in
         let within = drop_within (k - 1) rows rest.zs rest.is in
@@ -150,7 +151,8 @@ module _ {trip : Trip} {sheet : List ℕ} {moves : ℕ} {last : State} {rows : L
           high = omega arith;
           range = range_moved trip sound s (move_of (row_at sheet k)) t on.range handed.moved;
           left = rest.rest ∙ ap (reached last) (sym (ap (λ (i : ℕ). drop i rows) next ∙ drop_more (k - 1) rows rest.zs rest.is));
-          done = ap (λ (l : List ℕ). with_row l k (true_row (row_at sheet k) t)) on.done
+          done = (rw is at written)
+              ∙ ap (λ (l : List ℕ). with_row l k (true_row (row_at sheet k) t)) on.done
               ∙ row_behind 0 (take (k - 1) rows) before k (true_row (row_at sheet k) t) (omega (arith, length-take-le (k - 1) rows (omega (arith, within)), on.low)) (omega arith)
               ∙ sym (ap (λ (l : List Row). rows_put 0 l before) (ap (λ (i : ℕ). take i rows) next ∙ take_more (k - 1) rows rest.zs rest.is));
         }

@@ -1,8 +1,9 @@
 -- What the parts of retiming and audit find. Assumes nothing.
-use Rattle.std.specs.Prelude.{◌≡◌, Bool, true, false, not, ◌&&◌, List, [], ◌∷◌, ◌++◌, ℕ, eqb, length}
+use Rattle.std.specs.Prelude.{◌≡◌, Result, Ok, Err, Bool, true, false, not, ◌&&◌, List, [], ◌∷◌, ◌++◌, ℕ, eqb, length}
 use Rattle.seconds.specs.declared.Clock.{Clock}
 use Rattle.replies.specs.declared.Reply.{Reply}
-use Rattle.replies.specs.declared.Timing.{Timing}
+use Rattle.replies.specs.declared.Refusal.{Refusal}
+use Rattle.replies.specs.declared.Timed.{Timed}
 use Rattle.replies.specs.First.{◌at◌, first_of, NoneFits, Refuses}
 use Rattle.replies.specs.Told.{refused_at, succeeded, told_refusal, told_timing}
 use Rattle.booleans.specs.Pick.{pick}
@@ -11,7 +12,6 @@ use Rattle.sheets.specs.Sheet.{heading_of, short_sheet}
 use Rattle.sheets.specs.Written.{Whole}
 use Rattle.states.specs.declared.State.{State}
 use Rattle.moves.specs.Trip.{Trip}
-use Rattle.retiming.specs.declared.Walked.{Walked}
 use Rattle.retiming.specs.Walk.{Walk, refused, reached, arrival_reached}
 use Rattle.retiming.specs.Retiming.{moves_on, timing, sheet_tests, false_header, retimed_to}
 
@@ -20,17 +20,17 @@ abbrev pub clock_walk : Bool → ℕ → Clock → State → Walk
 clock_walk clocks k clock s = pick (clocks && not (eqb clock.0 s.clock.0)) (refused 18 k) (reached s [])
 
 -- the walk's end, without its records
-abbrev pub WalkSays : Walk → Walked → Type 0
-WalkSays (refused number move) (Walked.Refused why) = told_refusal why ≡ refused_at number move
-WalkSays (refused number move) (Walked.Reached s) = ⊥
-WalkSays (reached t rows) (Walked.Refused why) = ⊥
-WalkSays (reached t rows) (Walked.Reached s) = s ≡ t
+abbrev pub WalkSays : Walk → Result State Refusal → Type 0
+WalkSays (refused number move) (Err why) = told_refusal why ≡ refused_at number move
+WalkSays (refused number move) (Ok s) = ⊥
+WalkSays (reached t rows) (Err why) = ⊥
+WalkSays (reached t rows) (Ok s) = s ≡ t
 
 -- 15 to 17 (18) and 19: the refusal, or the state reached
-abbrev pub SheetSays : Bool → Trip → List ℕ → Walked → Type 0
-SheetSays clocks trip sheet (Walked.Refused why) = Refuses (sheet_tests trip.order sheet (timing clocks trip sheet)) why
-SheetSays clocks trip sheet (Walked.Reached s) =
-    Whole sheet × NoneFits (sheet_tests trip.order sheet (timing clocks trip sheet)) × WalkSays (timing clocks trip sheet) (Walked.Reached s)
+abbrev pub SheetSays : Bool → Trip → List ℕ → Result State Refusal → Type 0
+SheetSays clocks trip sheet (Err why) = Refuses (sheet_tests trip.order sheet (timing clocks trip sheet)) why
+SheetSays clocks trip sheet (Ok s) =
+    Whole sheet × NoneFits (sheet_tests trip.order sheet (timing clocks trip sheet)) × WalkSays (timing clocks trip sheet) (Ok s)
 
 -- audit's reply, once a run is opened
 abbrev pub audited_run : Trip → List ℕ → Reply
@@ -59,6 +59,6 @@ retimed_run trip sheet before =
     (succeeded (moves_on sheet) (arrival_reached (timing false trip sheet)))
 
 -- the answer and the other sheet afterwards, once a run is opened
-pub record RetimedRun (trip : Trip) (sheet before after : List ℕ) (answer : Timing) : Type 0 where
+pub record RetimedRun (trip : Trip) (sheet before after : List ℕ) (answer : Result Timed Refusal) : Type 0 where
   pub reply : told_timing answer ≡ retimed_run trip sheet before
   pub bytes : after ≡ pick (eqb (told_timing answer).number 0) (retimed_to (heading_of sheet) (timing false trip sheet) before) before

@@ -1,8 +1,9 @@
 -- Retiming and audit: the reply for any input, and the sheet afterwards. Document 01, "Retiming" and "Afterwards". Assumes nothing.
-use Rattle.std.specs.Prelude.{◌≡◌, Bool, true, false, not, ◌||◌, List, [], ◌∷◌, ◌++◌, ℕ, ◌+◌, eqb, length}
+use Rattle.std.specs.Prelude.{◌≡◌, Result, Bool, true, false, not, ◌||◌, List, [], ◌∷◌, ◌++◌, ℕ, ◌+◌, eqb, length}
 use Rattle.std.proofs.Math.Option.{Option, none}
 use Rattle.replies.specs.declared.Reply.{Reply}
-use Rattle.replies.specs.declared.Timing.{Timing}
+use Rattle.replies.specs.declared.Refusal.{Refusal}
+use Rattle.replies.specs.declared.Timed.{Timed}
 use Rattle.replies.specs.First.{Test, ◌at◌, first_of, placed}
 use Rattle.replies.specs.Told.{succeeded, told_timing}
 use Rattle.booleans.specs.Pick.{pick}
@@ -52,7 +53,7 @@ retimed_sheet given sheet out =
     out
 
 -- what retiming owes: its answer, and every byte of the other sheet
-pub record Retimed (given : Given) (sheet before after : List ℕ) (answer : Timing) : Type 0 where
+pub record Retimed (given : Given) (sheet before after : List ℕ) (answer : Result Timed Refusal) : Type 0 where
   pub reply : told_timing answer ≡ retiming_reply given sheet before
   pub bytes : after ≡ retimed_sheet given sheet before
 

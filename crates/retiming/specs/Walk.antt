@@ -1,10 +1,10 @@
 -- The walk over a sheet's records: the first refusal that a move meets, or the state reached with true clocks. Assumes nothing.
-use Rattle.std.specs.Prelude.{Bool, true, false, not, ◌&&◌, List, [], ◌∷◌, ℕ, ◌+◌, eqb}
+use Rattle.std.specs.Prelude.{Ok, Err, Bool, true, false, not, ◌&&◌, List, [], ◌∷◌, ℕ, ◌+◌, eqb}
 use Rattle.std.proofs.Math.Option.{Option, none, some}
 use Rattle.replies.specs.First.{Test, ◌at◌, placed}
 use Rattle.states.specs.declared.State.{State}
 use Rattle.moves.specs.declared.Move.{Move}
-use Rattle.moves.specs.declared.Step.TheVariants.{Foreign, Overrun, Moved}
+use Rattle.moves.specs.declared.Fault.TheVariants.{Foreign, Overrun}
 use Rattle.moves.specs.Trip.{Trip}
 use Rattle.moves.specs.Moves.{move, stepped}
 use Rattle.sheets.specs.declared.Row.{Row}
@@ -29,9 +29,9 @@ unfoldable pub walk : Bool → Trip → ℕ → State → List Row → Walk
 walk clocks trip k s [] = reached s []
 walk clocks trip k s (row ∷ rows) =
     elim (stepped trip s (move_of row)) [
-      | Foreign ↦ refused 16 k
-      | Overrun ↦ refused 17 k
-      | Moved t ↦
+      | Err Foreign ↦ refused 16 k
+      | Err Overrun ↦ refused 17 k
+      | Ok t ↦
           elim (clocks && not (eqb row.clock.0 t.clock.0))
           [ true ↦ refused 18 k | false ↦ recorded (true_row row t) (walk clocks trip (k + 1) t rows) ]
     ]

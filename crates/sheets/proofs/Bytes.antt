@@ -44,13 +44,17 @@ put_next s xs a b e w first second fits =
     ∙ rw second (splice_next s xs (word_bytes w) a b e first (rw length_word second) fits)
 
 -- a record's three words, put one after the other
-pub put_row_lem : (s : List ℕ) (row : Row) (a e : ℕ) → a + record_bytes ≡ e → e ≤ length s → put_at (put_at (put_at s a row.kind) (a + 4) row.number) (a + 8) row.clock.0 ≡ splice s a (row_bytes row) e
+pub put_row_lem : (part : List ℕ) (k : ℕ) (row : Row) → 1 ≤ k → record_bytes * k ≤ length part
+    → put_at (put_at (put_at part (record_bytes * (k - 1)) row.kind) (record_bytes * (k - 1) + 4) row.number) (record_bytes * (k - 1) + 8) row.clock.0 ≡ with_row_behind part k row
 unfolding row_bytes
-put_row_lem s row a e whole fits =
-    let one : List ℕ = word_bytes row.kind in
-    rw
-    (put_split s a row.kind (omega arith), put_next s one a (a + 4) (a + 8) row.number (rw length_word) (omega arith) (omega arith))
-    (put_next s (one ++ word_bytes row.number) a (a + 8) e row.clock.0 (simp (length-append, length_word)) (omega arith) fits)
+put_row_lem part k row low fits = put (record_bytes * (k - 1)) (record_bytes * k) (omega arith) fits
+  where
+    put : (a e : ℕ) → a + record_bytes ≡ e → e ≤ length part → put_at (put_at (put_at part a row.kind) (a + 4) row.number) (a + 8) row.clock.0 ≡ splice part a (row_bytes row) e
+    put a e whole fits =
+        let one : List ℕ = word_bytes row.kind in
+        rw
+        (put_split part a row.kind (omega arith), put_next part one a (a + 4) (a + 8) row.number (rw length_word) (omega arith) (omega arith))
+        (put_next part (one ++ word_bytes row.number) a (a + 8) e row.clock.0 (simp (length-append, length_word)) (omega arith) fits)
 
 -- a header's six
 pub put_heading_lem : (s : List ℕ) (h : Heading) → header_bytes ≤ length s → put_at (put_at (put_at (put_at (put_at (put_at s 0 h.moves) 4 h.arrival.0) 8 h.spell.0) 12 h.shift.0) 16 h.week.0) 20 h.labels ≡ with_heading s h

@@ -10,7 +10,7 @@ use states::State;
 use words::{put_word, word};
 
 // The header's six words.
-#[derive(Clone, Copy)]
+#[derive(Clone, Copy, PartialEq, Eq)]
 pub struct Heading {
     pub moves: u32,
     pub arrival: Clock,
@@ -49,16 +49,13 @@ pub fn sheet_needed(moves: u32) -> usize
 pub fn heading_for(moves: u32, state: State, labels: u32) -> Heading
     ensures { result ≡ heading_for moves state labels }
 {
-    let arrival = state.clock;
-    let spell = state.figures.spell;
-    let shift = state.figures.shift;
-    let week = state.figures.week;
+    let figures = state.figures;
     Heading {
         moves,
-        arrival,
-        spell,
-        shift,
-        week,
+        arrival: state.clock,
+        spell: figures.spell,
+        shift: figures.shift,
+        week: figures.week,
         labels,
     }
 }
@@ -91,6 +88,7 @@ pub fn read_row(sheet: &[u8], k: usize) -> Row
 }
 
 // Refusal 15.
+#[tactic(auto, unfolding(crate::specs::Sheet::torn))]
 pub fn is_torn(sheet: &[u8]) -> bool
     ensures { result ≡ torn sheet.now }
 {
@@ -98,12 +96,10 @@ pub fn is_torn(sheet: &[u8]) -> bool
         return true;
     }
     let moves = word(sheet, 0);
-    if Heading::MOST_MOVES < moves {
-        return true;
-    }
-    sheet.len() != sheet_needed(moves)
+    Heading::MOST_MOVES < moves || sheet.len() != sheet_needed(moves)
 }
 
+#[tactic(auto, using(crate::proofs::Bytes::put_heading_lem))]
 pub fn put_heading(sheet: &mut [u8], heading: Heading)
     requires { header_bytes ≤ length sheet.old }
     ensures { sheet.new ≡ with_heading sheet.old heading }
@@ -117,6 +113,7 @@ pub fn put_heading(sheet: &mut [u8], heading: Heading)
 }
 
 // Writes record k, counted from 1, into the part of a sheet behind its header.
+#[tactic(auto, using(crate::proofs::Bytes::put_row_lem))]
 pub fn put_row(part: &mut [u8], k: usize, row: Row)
     requires { (1 ≤ k) × (record_bytes * k ≤ length part.old) }
     ensures { part.new ≡ with_row_behind part.old k row }

@@ -1,23 +1,21 @@
--- An empty list bans no road.
 use Rattle.std.proofs.Common.{◌∙◌, ap, sym}
-use Rattle.theory.specs.Lists.{memb}
+use Rattle.std.proofs.lemmas.Result.{err_from_is_err_and}
 use Rattle.replies.proofs.First.{none_fits}
-use Rattle.moves.specs.Trip.{Trip, none_banned, trip_of}
+use Rattle.moves.specs.Trip.{Trip, trip_of}
 use Rattle.moves.specs.Given.{given_of}
 use Rattle.moves.specs.RunTests.{run_tests}
-use Rattle.moves.proofs.Trips.{unstruck_trip}
+use Rattle.moves.proofs.Opened.{opened_listed}
 use Rattle.retiming.specs.Parts.{audited_run}
 use Rattle.retiming.proofs.audit.Goals as goal
 
-pub audit_run-requires : goal.audit_run-requires
-audit_run-requires c = c.in-Ready.ensures.0.accepted
+pub returns-in_err-run : goal.returns-in_err-run
+returns-in_err-run c =
+    let p = err_from_is_err_and c.from_residual.result c.from_residual.ensures.1 in rw (p.1, p.2) (sym (c.in_err-run.ensures _ _))
 
-pub returns-in-Refused : goal.returns-in-Refused
-returns-in-Refused c = sym (c.in-Refused.ensures _ _)
-
-pub returns-in-Ready : goal.returns-in-Ready
-unfolding trip_of memb
-returns-in-Ready c =
+pub returns : goal.returns
+unfolding trip_of
+returns c =
+    let given = given_of c.args.map.now c.args.order.now in
     c.audit_run.ensures
-    ∙ ap (λ (t : Trip). audited_run t c.args.sheet.now) (unstruck_trip none_banned c.in-Ready.ensures.0 c.in-Ready.ensures.1)
-    ∙ sym (none_fits (run_tests (given_of c.args.map.now c.args.order.now)) _ _ c.in-Ready.ensures.2)
+    ∙ ap (λ (t : Trip). audited_run t c.args.sheet.now) (opened_listed given c.in_ok-run.run' c.in_ok-run.ensures)
+    ∙ sym (none_fits (run_tests given) _ _ c.in_ok-run.ensures.2)
