@@ -1,4 +1,5 @@
 -- The laws of candidates.
+pub mod Searched
 pub mod Results
 pub mod Trials
 pub mod Cursors

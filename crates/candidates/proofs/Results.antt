@@ -1,7 +1,6 @@
 -- What a cursor's move is, when it is offered, and what it leads to: a drive, or a pause by its kind. Assumes nothing.
 use mathlib.Core.Path.{◌≡◌, ◌∙◌, refl, sym, ap}
-use mathlib.Core.Bool.{Bool, true, false, ◌&&◌}
-use mathlib.Core.List.{List}
+use mathlib.Core.Bool.{true, false, ◌&&◌}
 use mathlib.Core.Logic.{⊎_elim}
 use Prim.Native.Nat.{ℕ, zero, suc, ◌+◌, ◌-◌, ◌≤◌, ◌<◌}
 use native.Mathlib.Omega.{arith}
@@ -10,17 +9,21 @@ use lib.Dec.{leb}
 use Rattle.booleans.proofs.Tests.{cases}
 use Rattle.roadmap.specs.Format.{road_count}
 use Rattle.roadmap.proofs.RoadTime.{at_most}
-use Rattle.mapcheck.specs.MapCheck.{AcceptedMap}
 use Rattle.mapcheck.proofs.Sound.{sound_map}
 use Rattle.driving.specs.Hours.{first_pause, last_pause, allows_pause, driven_on, cleared}
 use Rattle.driving.specs.declared.Figures.{Figures}
 use Rattle.states.specs.declared.State.{State}
-use Rattle.moves.specs.declared.Run.{Run}
-use Rattle.moves.specs.Trip.{Trip, road_in, roads_in, park_in}
+use Rattle.states.specs.States.{legal}
+use Rattle.moves.specs.declared.given.OpenRun.{OpenRun}
+use Rattle.moves.specs.OpenRuns.{searched_trip}
+use Rattle.moves.specs.Trip.{Stretch, Trip, none_banned, road_in, roads_in, park_in}
 use Rattle.moves.specs.Moves.{move, leaves, offers, driven, paused, after}
-use Rattle.moves.specs.Runs.{Tied}
-use Rattle.candidates.specs.Candidates.{move_at, result_at, candidate_clock, no_clock, candidate_junction}
+use Rattle.moves.specs.Runs.{stretch_in}
+use Rattle.moves.proofs.Stepped.{driven_in}
+use Rattle.labels.specs.declared.Candidate.{Candidate}
+use Rattle.candidates.specs.Candidates.{move_at, result_at, candidate_clock, no_clock, candidate_junction, Names, Fitting}
 use Rattle.candidates.specs.Trying.{Worth, allowed}
+use Rattle.candidates.proofs.Searched.{tied, roads}
 
 module _ (trip : Trip) (s : State) (cursor : ℕ) where
   pub move_drive : cursor ≤ roads_in trip → move_at trip s cursor ≡ move 1 cursor
@@ -43,17 +46,22 @@ module _ (trip : Trip) (s : State) (cursor : ℕ) where
       rw (move_pause low, ne_eqb kind 1 (λ e. omega arith), eq-eqb s.junction s.junction refl, le-leb first_pause kind (omega arith), le-leb kind last_pause (omega arith))
 
 -- of a cursor worth trying the driver's figures decide
-pub allowed_offers : {map : List ℕ} {banned : ℕ → Bool} {run : Run} {trip : Trip} → Tied map banned run trip → run.sizes.roads ≡ road_count map → {s : State} {cursor : ℕ} → Worth trip s cursor →
-    allowed run s cursor ≡ offers trip s (move_at trip s cursor)
-allowed_offers {run = run} {trip = trip} tied sized {s} {cursor} worth =
+pub allowed_offers : (run : OpenRun) {s : State} {cursor : ℕ} → Worth (searched_trip run) s cursor → allowed run.about s cursor ≡ offers (searched_trip run) s (move_at (searched_trip run) s cursor)
+allowed_offers run {s} {cursor} worth =
     ⊎_elim
-    (λ (road : leb cursor run.sizes.roads ≡ true).
-    let high : cursor ≤ roads_in trip = omega (arith, leb-true cursor run.sizes.roads road, tied.roads) in
-    rw road (sym (offers_road trip s cursor high ∙ worth.road high)))
-    (λ (pause : leb cursor run.sizes.roads ≡ false).
-    let low : roads_in trip < cursor = omega (arith, leb-false cursor run.sizes.roads pause, tied.roads) in
-    rw (pause, offers_pause trip s cursor low worth.high, worth.pause low, tied.order, tied.roads, sized))
-    (cases (leb cursor run.sizes.roads))
+    (λ (road : leb cursor run.about.sizes.roads ≡ true).
+    let high : cursor ≤ roads_in (searched_trip run) = omega (arith, leb-true _ _ road, roads run) in
+    rw road (sym (offers_road (searched_trip run) s cursor high ∙ worth.road high)))
+    (λ (pause : leb cursor run.about.sizes.roads ≡ false).
+    let low : roads_in (searched_trip run) < cursor = omega (arith, leb-false _ _ pause, roads run) in
+    rw (pause, offers_pause (searched_trip run) s cursor low worth.high, worth.pause low, (tied run).order, roads run))
+    (cases (leb cursor run.about.sizes.roads))
+
+-- one whose move is allowed and legal names it
+pub names : (run : OpenRun) {s reached : State} {cursor : ℕ} → Worth (searched_trip run) s cursor → reached ≡ result_at (searched_trip run) s cursor → allowed run.about s cursor ≡ true
+    → legal run.about.order reached ≡ true → Names (searched_trip run) s cursor
+names run worth is may lawful =
+    record { low = worth.low; high = worth.high; offered = sym (allowed_offers run worth) ∙ may; lawful = rw (← is, (tied run).order) lawful }
 
 -- the clock and the junction that go with a cursor
 module _ (trip : Trip) (s : State) where
@@ -77,44 +85,50 @@ module _ (trip : Trip) (s : State) where
   junction_none zero none = refl
   junction_none (suc c) none = absurd (omega arith)
 
--- a state by its parts
-state_of : {t : State} {junction clock : ℕ} {figures : Figures} → junction ≡ t.junction → clock ≡ t.clock.0 → figures ≡ t.figures →
-    record { junction = junction; clock = record { 0 = clock }; figures = figures } ≡ t
-state_of a b c = λ i. record { junction = a i; clock = record { 0 = b i }; figures = c i }
-
 pub record DriveTime (from clock seconds : ℕ) : Type 0 where
   pub after : from ≤ clock
   pub is : clock - from ≡ seconds
   pub few : seconds ≤ 1440000
 
-module _ {map : List ℕ} {banned : ℕ → Bool} {run : Run} {trip : Trip} (tied : Tied map banned run trip) (s : State) (cursor : ℕ) where
-  pub result_drive : cursor ≤ road_count map → driven (road_in trip cursor) s ≡ result_at trip s cursor
+module _ (run : OpenRun) (s : State) where
+  pub result_drive : (cursor : ℕ) → 1 ≤ cursor → cursor ≤ run.about.sizes.roads
+      → driven (stretch_in run.map.now none_banned run.about cursor) s ≡ result_at (searched_trip run) s cursor
   unfolding after
-  result_drive high = rw (move_drive trip s cursor (rw tied.roads high))
+  result_drive cursor low high = driven_in (tied run) s cursor (low, omega (arith, high, roads run, (tied run).roads)) ∙ rw (move_drive (searched_trip run) s cursor (omega (arith, high, roads run)))
 
-  pub result_pause : road_count map < cursor → paused (cursor - road_count map + 1) run.order.rules s ≡ result_at trip s cursor
+  pub result_pause : (cursor : ℕ) → run.about.sizes.roads < cursor
+      → paused (cursor - run.about.sizes.roads + 1) run.about.order.rules s ≡ result_at (searched_trip run) s cursor
   unfolding after
-  result_pause low =
-      rw (move_pause trip s cursor (rw tied.roads low), ne_eqb (cursor - roads_in trip + 1) 1 (λ e. omega arith), tied.order, tied.roads)
+  result_pause cursor low =
+      let kind : ℕ = cursor - roads_in (searched_trip run) + 1 in
+      rw (move_pause (searched_trip run) s cursor (omega (arith, low, roads run)), ne_eqb kind 1 (λ e. omega (arith, low, roads run, e)), (tied run).order, roads run)
 
-  module _ {clock : ℕ} (is : clock ≡ (result_at trip s cursor).clock.0) where
+  -- a candidate with a cursor tells the state that its cursor leads to, but for the figures
+  module _ {c : Candidate} (fit : Fitting (searched_trip run) s c) (some : 1 ≤ c.cursor) where
+    abbrev reached : State
+    reached = result_at (searched_trip run) s c.cursor
+
+    pub told_clock : c.clock.0 ≡ reached.clock.0
+    told_clock = fit.clock ∙ clock_some _ s c.cursor some
+
+    pub told_state : {figures : Figures} → figures ≡ reached.figures → record { junction = c.junction; clock = c.clock; figures = figures } ≡ reached
+    told_state is = λ i. record { junction = (fit.junction ∙ junction_some _ s c.cursor some) i; clock = record { 0 = told_clock i }; figures = is i }
+
     -- what a drive adds to the clock is its road time
-    pub drive_time : AcceptedMap map → 1 ≤ cursor → cursor ≤ road_count map → DriveTime s.clock.0 clock (road_in trip cursor).seconds
-    drive_time accepted low high =
-        let road = (sound_map map accepted).roads cursor low high in
-        let time = is ∙ ap (λ (t : State). t.clock.0) (sym (result_drive high)) in
-        record { after = omega arith; is = omega arith; few = rw (tied.road cursor low high) (at_most _ _ road.metres.below road.speed.above) }
+    pub drive_time : c.cursor ≤ run.about.sizes.roads → DriveTime s.clock.0 c.clock.0 (road_in (searched_trip run) c.cursor).seconds
+    drive_time high =
+        let top : c.cursor ≤ road_count run.map.now = omega (arith, high, roads run, (tied run).roads) in
+        let road = (sound_map run.map.now run.accepted.mapped).roads c.cursor some top in
+        let stretch = (tied run).road c.cursor some top in
+        let time = told_clock ∙ ap (λ (t : State). t.clock.0) (sym (result_drive c.cursor some high)) in
+        record { after = omega arith; is = rw stretch (omega (arith, time)); few = rw stretch (at_most _ _ road.metres.below road.speed.above) }
 
-    -- so the clock tells the state after it
-    pub told_drive : AcceptedMap map → 1 ≤ cursor → cursor ≤ road_count map → {to : ℕ} {figures : Figures} → to ≡ (result_at trip s cursor).junction → figures ≡ driven_on (clock - s.clock.0) s.figures →
-        record { junction = to; clock = record { 0 = clock }; figures = figures } ≡ result_at trip s cursor
-    told_drive accepted low high there on =
-        let result = result_drive high in
-        state_of there is
-        (on ∙ ap (λ (seconds : ℕ). driven_on seconds s.figures) (drive_time accepted low high).is ∙ ap (λ (t : State). t.figures) result)
+    -- so the clock tells the figures after it
+    pub told_drive : c.cursor ≤ run.about.sizes.roads → driven_on (c.clock.0 - s.clock.0) s.figures ≡ reached.figures
+    told_drive high =
+        let top : c.cursor ≤ road_count run.map.now = omega (arith, high, roads run, (tied run).roads) in
+        ap (λ (seconds : ℕ). driven_on seconds s.figures) ((drive_time high).is ∙ ap (λ (road : Stretch). road.seconds) ((tied run).road c.cursor some top))
+        ∙ ap (λ (t : State). t.figures) (result_drive c.cursor some high)
 
-    pub told_pause : road_count map < cursor → {to : ℕ} {figures : Figures} → to ≡ (result_at trip s cursor).junction → figures ≡ cleared (cursor - road_count map + 1) s.figures →
-        record { junction = to; clock = record { 0 = clock }; figures = figures } ≡ result_at trip s cursor
-    told_pause low there on =
-        let result = result_pause low in
-        state_of there is (on ∙ ap (λ (t : State). t.figures) result)
+    pub told_pause : run.about.sizes.roads < c.cursor → cleared (c.cursor - run.about.sizes.roads + 1) s.figures ≡ reached.figures
+    told_pause low = ap (λ (t : State). t.figures) (result_pause c.cursor low)

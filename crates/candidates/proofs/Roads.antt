@@ -1,28 +1,34 @@
 -- The cursors in rising order: the roads along the junction's chain, which rises to its end, then at a car park the kinds of pause.
 -- Assumes nothing.
 use mathlib.Core.Path.{◌≡◌, ◌∙◌, refl, sym, subst}
-use mathlib.Core.Bool.{Bool, true, false}
+use mathlib.Core.Bool.{true, false}
 use mathlib.Core.List.{List}
 use mathlib.Core.Logic.{⊎_elim}
 use Prim.Native.Nat.{ℕ, zero, suc, ◌+◌, ◌-◌, ◌≤◌, ◌<◌}
 use native.Mathlib.Omega.{arith}
-use borrow.Author.Tests.{eqb-true, eq-eqb, ltb-true, ltb-false}
-use lib.Dec.{ltb}
+use borrow.Author.Tests.{eqb-true, ltb-true, ltb-false}
+use lib.Dec.{eqb, ltb}
 use Rattle.booleans.proofs.Tests.{cases, not_both, and_true}
-use Rattle.roadmap.specs.Format.{road_count, first_road, next_road, road_from}
+use Rattle.roadmap.specs.Format.{road_count, first_road, car_park, next_road, road_from}
 use Rattle.mapcheck.specs.MapCheck.{AcceptedMap}
 use Rattle.mapcheck.proofs.Listed.{LowestFrom, lowest_from_lem}
 use Rattle.mapcheck.proofs.Sound.{accepted_made}
 use Rattle.driving.specs.Hours.{last_pause, has_split}
+use Rattle.driving.specs.declared.Pause.{Pause}
+use Rattle.driving.specs.declared.Pause.TheVariants.{Break, Rest, FirstPart, SecondPart, WeeklyRest}
+use Rattle.driving.specs.Pauses.{pause_number}
 use Rattle.driving.proofs.Hours.{no_part}
 use Rattle.states.specs.declared.State.{State}
-use Rattle.moves.specs.declared.Run.{Run}
+use Rattle.moves.specs.declared.given.OpenRun.{OpenRun}
+use Rattle.moves.specs.OpenRuns.{searched_trip}
 use Rattle.moves.specs.Trip.{Trip, roads_in, park_in}
-use Rattle.moves.specs.Runs.{Tied, RangeIn}
+use Rattle.moves.specs.Runs.{RangeIn}
 use Rattle.moves.proofs.Trips.{leaves_road_lem}
 use Rattle.candidates.specs.Candidates.{Names}
 use Rattle.candidates.specs.Trying.{Worth, Before, Follows}
+use Rattle.candidates.proofs.Searched.{tied, roads, junctions}
 use Rattle.candidates.proofs.Results.{offers_road, offers_pause}
+use Rattle.candidates.proofs.Rivals.{worth_road}
 
 -- how far a walk along the numbers up to the last has come where it stands at r; 0 is its end
 abbrev pub up_to : ℕ → ℕ → ℕ
@@ -61,6 +67,14 @@ named_worth {trip} {s} {c} named =
       road = λ high. sym (offers_road trip s c high) ∙ named.offered;
       pause = λ low. (and_true {a = park_in trip s.junction} (sym (offers_pause trip s c low named.high) ∙ named.offered)).0;
     }
+
+-- but for the weekly rest, each kind of pause has one above it
+pub not_last : (pause : Pause) → (pause ≡ WeeklyRest → ⊥) → pause_number pause < last_pause
+not_last Break other = omega arith
+not_last Rest other = omega arith
+not_last FirstPart other = omega arith
+not_last SecondPart other = omega arith
+not_last WeeklyRest other = absurd (other refl)
 
 -- the kinds of pause, from the first, at a car park
 module _ (trip : Trip) (s : State) where
@@ -110,11 +124,17 @@ module _ {trip : Trip} {s : State} {cursor : ℕ} (worth : Worth trip s cursor) 
         over = λ c past before named. omega (arith, named.high);
       }
 
-module _ {map : List ℕ} {banned : ℕ → Bool} {run : Run} {trip : Trip} (tied : Tied map banned run trip) (accepted : AcceptedMap map) where
+module _ (run : OpenRun) where
+  abbrev map : List ℕ
+  map = run.map.now
+
+  abbrev trip : Trip
+  trip = searched_trip run
+
   -- a road worth trying is from the junction
   from : {s : State} {r : ℕ} → Worth trip s r → r ≤ road_count map → road_from map r ≡ s.junction
   from {s} {r} worth high =
-      eqb-true _ _ (sym (leaves_road_lem tied s.junction r worth.low high) ∙ worth.road (rw tied.roads high))
+      eqb-true _ _ (sym (leaves_road_lem (tied run) s.junction r worth.low high) ∙ worth.road (rw (tied run).roads high))
 
   -- x is the lowest road of the junction after the cursor: it follows and, where there is none, what follows the roads
   module _ {s : State} {cursor n x : ℕ} (lowest : LowestFrom (road_from map) s.junction (cursor + 1) n x) (ends : cursor + n ≡ road_count map) where
@@ -123,13 +143,7 @@ module _ {map : List ℕ} {banned : ℕ → Bool} {run : Run} {trip : Trip} (tie
         let high : x ≤ road_count map = omega (arith, lowest.high) in
         record {
           rises = λ some. omega (arith, lowest.low some);
-          worth = λ some.
-              record {
-                low = some;
-                high = rw tied.roads (omega arith);
-                road = λ h. leaves_road_lem tied s.junction x some high ∙ eq-eqb _ _ (lowest.own some);
-                pause = λ low. absurd (omega (arith, tied.roads));
-              };
+          worth = λ some. worth_road run some (omega (arith, high, roads run, (tied run).roads)) (sym (lowest.own some));
           over = λ c past before named.
               let less = before some in
               omega (arith, lowest.least c (omega arith) (omega arith) (from (named_worth named) (omega arith)));
@@ -138,11 +152,11 @@ module _ {map : List ℕ} {banned : ℕ → Bool} {run : Run} {trip : Trip} (tie
     past_roads : x ≤ 0 → {next : ℕ} → Follows trip s (roads_in trip) next → Follows trip s cursor next
     past_roads none follows =
         record {
-          rises = λ some. omega (arith, follows.rises some, tied.roads);
+          rises = λ some. omega (arith, follows.rises some, (tied run).roads);
           worth = follows.worth;
           over = λ c past before named.
               ⊎_elim
-              (λ (pause : ltb (road_count map) c ≡ true). follows.over c (rw tied.roads (ltb-true _ _ pause)) before named)
+              (λ (pause : ltb (road_count map) c ≡ true). follows.over c (rw (tied run).roads (ltb-true _ _ pause)) before named)
               (λ (road : ltb (road_count map) c ≡ false).
               let high : c ≤ road_count map = ltb-false _ _ road in
               omega (arith, lowest.least c (omega arith) (omega arith) (from (named_worth named) high)))
@@ -150,9 +164,13 @@ module _ {map : List ℕ} {banned : ℕ → Bool} {run : Run} {trip : Trip} (tie
         }
 
   module _ {s : State} (range : RangeIn trip s) where
+    -- its junction is one of the map's
+    pub junction_within : (1 ≤ s.junction) × (s.junction ≤ run.about.sizes.junctions)
+    junction_within = (range.low, omega (arith, range.high, junctions run))
+
     first_lowest : LowestFrom (road_from map) s.junction 1 (road_count map) (first_road map s.junction)
     first_lowest =
-        rw ((accepted_made map accepted).first_lowest s.junction range.low (rw tied.junctions at range.high)) (lowest_from_lem (road_from map) s.junction 1 (road_count map) (omega arith))
+        rw ((accepted_made map run.accepted.mapped).first_lowest s.junction range.low (rw (tied run).junctions at range.high)) (lowest_from_lem (road_from map) s.junction 1 (road_count map) (omega arith))
 
     pub first_road_lem : 1 ≤ first_road map s.junction → Follows trip s 0 (first_road map s.junction)
     first_road_lem some = to_road {cursor = 0} first_lowest (omega arith) some
@@ -160,14 +178,21 @@ module _ {map : List ℕ} {banned : ℕ → Bool} {run : Run} {trip : Trip} (tie
     pub no_first_road : first_road map s.junction ≤ 0 → {next : ℕ} → Follows trip s (roads_in trip) next → Follows trip s 0 next
     no_first_road none follows = past_roads {cursor = 0} first_lowest (omega arith) none follows
 
-  module _ {s : State} {cursor : ℕ} (worth : Worth trip s cursor) (high : cursor ≤ road_count map) where
+    -- whether there are pauses is the car park's word
+    pub is_park : park_in trip s.junction ≡ eqb (car_park map s.junction) 1
+    is_park = (tied run).park s.junction range.low (rw (tied run).junctions at range.high)
+
+  module _ {s : State} {cursor : ℕ} (worth : Worth trip s cursor) (few : cursor ≤ run.about.sizes.roads) where
+    within : cursor ≤ road_count map
+    within = omega (arith, few, roads run, (tied run).roads)
+
     own_lowest : LowestFrom (road_from map) s.junction (cursor + 1) (road_count map - cursor) (next_road map cursor)
     own_lowest =
-        subst (λ (j : ℕ). LowestFrom (road_from map) j (cursor + 1) (road_count map - cursor) (next_road map cursor)) (from worth high)
-        (next_lowest map accepted cursor worth.low high)
+        subst (λ (j : ℕ). LowestFrom (road_from map) j (cursor + 1) (road_count map - cursor) (next_road map cursor)) (from worth within)
+        (next_lowest map run.accepted.mapped cursor worth.low within)
 
     pub next_road_lem : 1 ≤ next_road map cursor → Follows trip s cursor (next_road map cursor)
-    next_road_lem some = to_road {cursor = cursor} own_lowest (omega arith) some
+    next_road_lem some = to_road {cursor = cursor} own_lowest (omega (arith, within)) some
 
     pub no_next_road : next_road map cursor ≤ 0 → {next : ℕ} → Follows trip s (roads_in trip) next → Follows trip s cursor next
-    no_next_road none follows = past_roads {cursor = cursor} own_lowest (omega arith) none follows
+    no_next_road none follows = past_roads {cursor = cursor} own_lowest (omega (arith, within)) none follows

@@ -1,5 +1,5 @@
 -- The cursors of a label tried one after the other, lowest first, and the best of them. Assumes nothing.
-use Rattle.std.specs.Prelude.{◌≡◌, Bool, true, false, not, ◌||◌, List, ℕ, ◌+◌, ◌-◌, ◌≤◌, ◌<◌, T, leb, length, get_or}
+use Rattle.std.specs.Prelude.{◌≡◌, Bool, true, false, not, ◌||◌, List, ℕ, ◌+◌, ◌-◌, ◌≤◌, ◌<◌, T, leb, length, Option, IfSome}
 use Rattle.driving.specs.Hours.{last_pause, allows_pause}
 use Rattle.states.specs.declared.State.{State}
 use Rattle.states.specs.States.{covers, ranks_no_higher}
@@ -10,7 +10,9 @@ use Rattle.moves.specs.Moves.{leaves}
 use Rattle.journeys.specs.Journeys.{succs}
 use Rattle.theory.specs.States.{Covered}
 use Rattle.labels.specs.declared.Candidate.{Candidate}
+use Rattle.labels.specs.declared.Place.{Place}
 use Rattle.labels.specs.LabelWords.{label_at}
+use Rattle.labels.specs.Lists.{place_at}
 use Rattle.candidates.specs.declared.Rival.{Rival}
 use Rattle.candidates.specs.Candidates.{Names, result_at, Fitting}
 use Rattle.candidates.specs.Next.{above, Needless}
@@ -45,13 +47,13 @@ hint_entries = 1024
 abbrev pub Stands : List ℕ → ℕ → ℕ → Type 0
 Stands ws j k = 1 ≤ k → (label_at ws k).junction ≡ j
 
--- each junction's entry is one there
-abbrev pub AllStand : List ℕ → List ℕ → Type 0
-AllStand ws hs = (j : ℕ) → j < length hs → Stands ws j (get_or hs j 0)
+-- the last label at each junction is one there
+abbrev pub AllStand : List ℕ → List Place → Type 0
+AllStand ws ps = (j : ℕ) → j < length ps → Stands ws j (place_at ps j).last
 
--- the move of a rival is worth trying for its label, if it has one
-abbrev pub Contends : Trip → List ℕ → Rival → Type 0
-Contends trip ws by = 1 ≤ by.label → Worth trip (label_at ws by.label) by.cursor
+-- a rival, if there is one, is of a label, and its move is worth trying for that
+abbrev pub Contends : Trip → List ℕ → Option Rival → Type 0
+Contends trip ws rival = IfSome rival (λ by. (1 ≤ by.label) × Worth trip (label_at ws by.label) by.cursor)
 
 -- labels 1 to n are in range
 abbrev pub Ranged : Trip → List ℕ → ℕ → Type 0

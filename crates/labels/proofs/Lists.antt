@@ -2,13 +2,13 @@
 use mathlib.Core.Path.{◌≡◌, ◌∙◌, refl, sym, ap, subst}
 use mathlib.Core.Bool.{Bool, true, false}
 use mathlib.Core.List.{List}
-use mathlib.Core.Logic.{◌⊎◌, ⊎_elim, inl, inr}
-use Prim.Native.Nat.{ℕ, ◌+◌, ◌-◌, ◌*◌, ◌/◌, ◌≤◌, ◌<◌}
+use mathlib.Core.Logic.{∥∥₁_map}
+use Prim.Native.Nat.{ℕ, ◌+◌, ◌-◌, ◌*◌, ◌/◌, ◌≤◌, ◌<◌, max}
 use native.Mathlib.Omega.{arith}
 use native.Mathlib.Nat.{le_refl}
 use native.Mathlib.Decide.{dec_le, ℕ_discrete}
 use lib.Dec.{T}
-use lib.ListN.{length, get_or, set, length-set}
+use lib.ListN.{length, set, length-set}
 use lib.Seq.{get_or-set_same, get_or-set_other}
 use Rattle.booleans.proofs.Tests.{not_both, T_true, true_T}
 use Rattle.theory.specs.States.{Covered}
@@ -21,25 +21,22 @@ use Rattle.states.proofs.Compared.{covers_junction, covers_figures, times_above}
 use Rattle.states.specs.LabelSpace.{label_words}
 use Rattle.labels.specs.declared.Candidate.{Candidate}
 use Rattle.labels.specs.LabelWords.{largest_word, place_field, spell_field, shift_field, field, junction_of, previous_of, label_at, settled, Same, SameLabels, Added}
-use Rattle.labels.specs.Lists.{Last, Heads, RoomAt, Rooms, Lists, Raised}
+use Rattle.labels.specs.declared.Place.{Place}
+use Rattle.labels.specs.Lists.{no_place, place_at, Last, Heads, RoomAt, Rooms, Lists}
 use Rattle.labels.proofs.LabelWords.{settled_mem, mem_settled, kept_field, kept_labels}
 
 -- no label: no head, and no room
-pub lists_none :
-    (ws hs ss fs : List ℕ) (size : ℕ) → length hs ≡ size → length ss ≡ size → length fs ≡ size → ((j : ℕ) → j < size → get_or hs j 0 ≡ 0)
-    → ((j : ℕ) → j < size → get_or ss j 0 ≡ 0) → ((j : ℕ) → j < size → get_or fs j 0 ≡ 0) → Lists ws hs ss fs 0
-lists_none ws hs ss fs size lh ls lf heads spells shifts = record {
+pub lists_none : (ws : List ℕ) (ps : List Place) (size : ℕ) → length ps ≡ size → ((j : ℕ) → j < size → place_at ps j ≡ no_place) → Lists ws ps 0
+lists_none ws ps size long empty = record {
   room = omega arith;
   chain = λ k low high. absurd (omega arith);
-  heads = λ j h. rw (heads j (omega arith)) (record { below = omega arith; same = λ p. absurd (omega arith); skip = λ m a b e. omega arith });
-  spells = none ss spell_field ls spells;
-  shifts = none fs shift_field lf shifts;
-  as_many_spells = cc;
-  as_many_shifts = cc;
+  heads = λ j h. rw (empty j (omega arith)) (record { below = omega arith; same = λ p. absurd (omega arith); skip = λ m a b e. omega arith });
+  spells = λ j h. rw (empty j (omega arith)) none;
+  shifts = λ j h. rw (empty j (omega arith)) none;
 }
   where
-    none : (rs : List ℕ) (f : ℕ) → length rs ≡ size → ((j : ℕ) → j < size → get_or rs j 0 ≡ 0) → Rooms f ws rs 0
-    none rs f l all j h = rw (all j (omega arith)) (record { most = λ k low high e. absurd (omega arith); reached = λ p. absurd (omega arith) })
+    none : {f j : ℕ} → RoomAt f ws 0 j 0
+    none = record { most = λ k low high e. absurd (omega arith); reached = λ p. absurd (omega arith) }
 
 -- Where the labels stay as they were, so do their lists.
 module _ (ws ws' : List ℕ) (n : ℕ) (places : Same place_field ws ws' n) where
@@ -56,18 +53,16 @@ module _ (ws ws' : List ℕ) (n : ℕ) (places : Same place_field ws ws' n) wher
   room_same : (f j v : ℕ) → Same f ws ws' n → RoomAt f ws n j v → RoomAt f ws' n j v
   room_same f j v same R = record {
     most = λ k low high e. rw (same k low high) (R.most k low high (sym (junctions k low high) ∙ e));
-    reached = λ h. let t = R.reached h in (t.0, t.1, t.2, junctions t.0 t.1 t.2 ∙ t.3, ap (λ (w : ℕ). largest_word - w) (same t.0 t.1 t.2) ∙ t.4);
+    reached = λ h. ∥∥₁_map (R.reached h) (λ t. (t.0, t.1, t.2, junctions t.0 t.1 t.2 ∙ t.3, ap (λ (w : ℕ). largest_word - w) (same t.0 t.1 t.2) ∙ t.4));
   }
 
-pub lists_same : {ws ws' hs ss fs : List ℕ} {n : ℕ} → SameLabels ws ws' n → label_words * n ≤ length ws' → Lists ws hs ss fs n → Lists ws' hs ss fs n
-lists_same {ws} {ws'} {n} S room L = record {
+pub lists_same : {ws ws' : List ℕ} {ps : List Place} {n : ℕ} → SameLabels ws ws' n → label_words * n ≤ length ws' → Lists ws ps n → Lists ws' ps n
+lists_same {ws} {ws'} {n = n} S room L = record {
   room = room;
   chain = λ k low high. rw (S.states place_field (omega arith) k low high, S.previous k low high) (last_same ws ws' n (S.states place_field (omega arith)) k _ _ (omega arith) (L.chain k low high));
   heads = λ j h. last_same ws ws' n (S.states place_field (omega arith)) (n + 1) j _ (le_refl _) (L.heads j h);
   spells = λ j h. room_same ws ws' n (S.states place_field (omega arith)) spell_field j _ (S.states spell_field (omega arith)) (L.spells j h);
   shifts = λ j h. room_same ws ws' n (S.states place_field (omega arith)) shift_field j _ (S.states shift_field (omega arith)) (L.shifts j h);
-  as_many_spells = L.as_many_spells;
-  as_many_shifts = L.as_many_shifts;
 }
 
 -- The walk along a junction's labels: none after k covers the label.
@@ -94,19 +89,19 @@ not_covered ws n label none C =
     let N = mem_settled ws n C.0 C.1 in
     none N.k N.low N.high (subst (λ a. T (covers a label)) N.is C.2)
 
-module _ {ws hs ss fs : List ℕ} {n : ℕ} (label : State) (L : Lists ws hs ss fs n) (known : label.junction < length hs) where
+module _ {ws : List ℕ} {ps : List Place} {n : ℕ} (label : State) (L : Lists ws ps n) (known : label.junction < length ps) where
   wheel : (k : ℕ) → T (covers (label_at ws k) label) → T (none_above (wheel_figures (label_at ws k).figures) (wheel_figures label.figures))
   wheel k C = above_tail _ _ _ _ (times_above (label_at ws k) label (covers_figures (label_at ws k) label C))
 
-  pub no_spell_room : get_or ss label.junction 0 < largest_word - label.figures.spell.0 → Covered covers (settled ws n) label → ⊥
+  pub no_spell_room : (place_at ps label.junction).spell_room < largest_word - label.figures.spell.0 → Covered covers (settled ws n) label → ⊥
   no_spell_room h =
-      not_covered ws n label (λ k low high C. omega (arith, above_head _ _ _ _ (wheel k C), (L.spells label.junction (omega (arith, L.as_many_spells))).most k low high (covers_junction _ _ C)))
+      not_covered ws n label (λ k low high C. omega (arith, above_head _ _ _ _ (wheel k C), (L.spells label.junction known).most k low high (covers_junction _ _ C)))
 
-  pub no_shift_room : get_or fs label.junction 0 < largest_word - label.figures.shift.0 → Covered covers (settled ws n) label → ⊥
+  pub no_shift_room : (place_at ps label.junction).shift_room < largest_word - label.figures.shift.0 → Covered covers (settled ws n) label → ⊥
   no_shift_room h =
-      not_covered ws n label (λ k low high C. omega (arith, above_head _ _ _ _ (above_tail _ _ _ _ (wheel k C)), (L.shifts label.junction (omega (arith, L.as_many_shifts))).most k low high (covers_junction _ _ C)))
+      not_covered ws n label (λ k low high C. omega (arith, above_head _ _ _ _ (above_tail _ _ _ _ (wheel k C)), (L.shifts label.junction known).most k low high (covers_junction _ _ C)))
 
-  pub walk_first : Past ws n label (get_or hs label.junction 0)
+  pub walk_first : Past ws n label (place_at ps label.junction).last
   walk_first =
       let H = L.heads label.junction known in
       record { high = omega (arith, H.below); here = λ p. sym (H.same p); none = λ m a b C. H.skip m a (omega arith) (covers_junction _ _ C) }
@@ -137,15 +132,6 @@ walk_end {ws} {n} {k} {since} {label} first P h = not_covered ws n label (λ m l
     go m low high (yes early) C = first (covered_by ws since m label low early C)
     go m low high (no late) C = P.none m (omega arith) high C
 
--- Raising.
-pub raised : (ls : List ℕ) (j v : ℕ) → j < length ls → get_or ls j 0 < v → Raised ls (set ls j v) j v
-raised ls j v h more =
-    let e = get_or-set_same ls j v 0 h in
-    record { others = λ i differs. get_or-set_other ls j i v 0 differs; new = omega arith; old = omega arith; one = inl e }
-
-pub high_already : {ls : List ℕ} {j v : ℕ} → v ≤ get_or ls j 0 → Raised ls ls j v
-high_already h = record { others = λ i differs. refl; new = h; old = le_refl _; one = inr refl }
-
 -- A new label.
 upto : (P : ℕ → Type 0) (n : ℕ) → ((k : ℕ) → 1 ≤ k → k ≤ n → P k) → P (n + 1) → (k : ℕ) → 1 ≤ k → k ≤ n + 1 → P k
 upto P n f g k a b = go (dec_le k n)
@@ -161,65 +147,71 @@ module _ {ws ws' : List ℕ} {n : ℕ} {label : State} {parent : ℕ} {c : Candi
   places_kept : Same place_field ws ws' n
   places_kept = kept_field ws ws' n A.kept place_field (omega arith)
 
-  heads_added : (hs : List ℕ) → Heads ws hs n → label.junction < length hs → Heads ws' (set hs label.junction (n + 1)) (n + 1)
-  heads_added hs H known j h = go (ℕ_discrete j label.junction)
-    where
-      go : Dec (j ≡ label.junction) → Last ws' (n + 1 + 1) j (get_or (set hs label.junction (n + 1)) j 0)
-      go (yes e) =
-          rw (e, get_or-set_same hs label.junction (n + 1) 0 known)
-          (record { below = omega arith; same = λ p. at_new; skip = λ m a b c. omega arith })
-      go (no e) =
-          rw (get_or-set_other hs label.junction j (n + 1) 0 e)
-          (let K = last_same ws ws' n places_kept (n + 1) j _ (le_refl _) (H j (omega (arith, length-set hs label.junction (n + 1)))) in
-          record {
-            below = omega (arith, K.below);
-            same = K.same;
-            skip = λ m a b c. upto (λ k. get_or hs j 0 < k → junction_of ws' k ≡ j → ⊥) n (λ k low high q r. K.skip k q (omega arith) r) (λ q r. e (sym r ∙ at_new)) m (omega arith) (omega arith) a c;
-          })
+  -- what is kept of the junctions, with the new label's
+  module _ {ps : List Place} (L : Lists ws ps n) (known : label.junction < length ps) (link : previous_of ws' (n + 1) ≡ (place_at ps label.junction).last) where
+    abbrev new_place : Place
+    new_place = record {
+      last = n + 1;
+      spell_room = max (place_at ps label.junction).spell_room (largest_word - label.figures.spell.0);
+      shift_room = max (place_at ps label.junction).shift_room (largest_word - label.figures.shift.0);
+    }
 
-  room_added :
-      (f : ℕ) (rs rs' : List ℕ) (v : ℕ) → f < label_words → Rooms f ws rs n → field ws' (n + 1) f ≡ v → Raised rs rs' label.junction (largest_word - v) → length rs' ≡ length rs
-      → Rooms f ws' rs' (n + 1)
-  room_added f rs rs' v small R new W same j h = go (ℕ_discrete j label.junction)
-    where
-      K : RoomAt f ws' n j (get_or rs j 0)
-      K = room_same ws ws' n places_kept f j _ (kept_field ws ws' n A.kept f small) (R j (omega arith))
+    abbrev ps' : List Place
+    ps' = set ps label.junction new_place
 
-      go : Dec (j ≡ label.junction) → RoomAt f ws' (n + 1) j (get_or rs' j 0)
-      go (no e) =
-          rw (W.others j e)
-          (record {
-            most = upto (λ k. junction_of ws' k ≡ j → largest_word - field ws' k f ≤ get_or rs j 0) n K.most (λ r. absurd (e (sym r ∙ at_new)));
-            reached = λ p. let t = K.reached p in (t.0, t.1, omega (arith, t.2), t.3, t.4);
-          })
-      go (yes e) = record {
-        most = upto (λ k. junction_of ws' k ≡ j → largest_word - field ws' k f ≤ get_or rs' j 0) n (λ k low high r. omega (arith, old, K.most k low high r)) (λ r. omega (arith, at_j, new));
-        reached = λ p.
-            ⊎_elim (λ q. (n + 1, omega arith, le_refl _, at_new ∙ sym e, ap (λ (w : ℕ). largest_word - w) new ∙ sym q))
-            (λ q. let t = K.reached (omega arith) in (t.0, t.1, omega (arith, t.2), t.3, t.4 ∙ sym q))
-            is_one;
-      }
-        where
-          at_j : largest_word - v ≤ get_or rs' j 0
-          at_j = rw e W.new
+    -- what holds of each junction's place, since it holds of the new one and of those that stay
+    each : (P : ℕ → Place → Type 0) → P label.junction new_place → ((j : ℕ) → (j ≡ label.junction → ⊥) → j < length ps → P j (place_at ps j)) → (j : ℕ) → j < length ps' → P j (place_at ps' j)
+    each P here others j h = go (ℕ_discrete j label.junction)
+      where
+        go : Dec (j ≡ label.junction) → P j (place_at ps' j)
+        go (yes e) = rw (e, get_or-set_same ps label.junction new_place no_place known) here
+        go (no e) = rw (get_or-set_other ps label.junction j new_place no_place e) (others j e (omega (arith, length-set ps label.junction new_place)))
 
-          old : get_or rs j 0 ≤ get_or rs' j 0
-          old = rw e W.old
+    heads_added : Heads ws' ps' (n + 1)
+    heads_added =
+        each (λ j p. Last ws' (n + 1 + 1) j p.last)
+        (record { below = omega arith; same = λ p. at_new; skip = λ m a b c. omega arith })
+        (λ j e h.
+        let K = last_same ws ws' n places_kept (n + 1) j _ (le_refl _) (L.heads j h) in
+        record {
+          below = omega (arith, K.below);
+          same = K.same;
+          skip = λ m a b c. upto (λ k. (place_at ps j).last < k → junction_of ws' k ≡ j → ⊥) n (λ k low high q r. K.skip k q (omega arith) r) (λ q r. e (sym r ∙ at_new)) m (omega arith) (omega arith) a c;
+        })
 
-          is_one : (get_or rs' j 0 ≡ largest_word - v) ⊎ (get_or rs' j 0 ≡ get_or rs j 0)
-          is_one = rw e W.one
+    room_added :
+        (f : ℕ) (room : Place → ℕ) (v : ℕ) → f < label_words → Rooms room f ws ps n → field ws' (n + 1) f ≡ v → room new_place ≡ max (room (place_at ps label.junction)) (largest_word - v)
+        → Rooms room f ws' ps' (n + 1)
+    room_added f room v small R new is =
+        each (λ j p. RoomAt f ws' (n + 1) j (room p)) here (λ j e h.
+        let K = kept j h in
+        record {
+          most = upto (λ k. junction_of ws' k ≡ j → largest_word - field ws' k f ≤ room (place_at ps j)) n K.most (λ r. absurd (e (sym r ∙ at_new)));
+          reached = λ p. ∥∥₁_map (K.reached p) (λ t. (t.0, t.1, omega (arith, t.2), t.3, t.4));
+        })
+      where
+        kept : (j : ℕ) → j < length ps → RoomAt f ws' n j (room (place_at ps j))
+        kept j h = room_same ws ws' n places_kept f j _ (kept_field ws ws' n A.kept f small) (R j h)
 
-  pub lists_added :
-      {hs ss ss' fs fs' : List ℕ} → Lists ws hs ss fs n → label.junction < length hs → label_words * (n + 1) ≤ length ws'
-      → previous_of ws' (n + 1) ≡ get_or hs label.junction 0
-      → Raised ss ss' label.junction (largest_word - label.figures.spell.0) → length ss' ≡ length ss
-      → Raised fs fs' label.junction (largest_word - label.figures.shift.0) → length fs' ≡ length fs → Lists ws' (set hs label.junction (n + 1)) ss' fs' (n + 1)
-  lists_added {hs} {ss} {ss'} {fs} {fs'} L known room link S same_ss F same-fs = record {
-    room = room;
-    chain = upto (λ k. Last ws' k (junction_of ws' k) (previous_of ws' k)) n (lists_same (kept_labels ws ws' n A.kept) (omega arith) L).chain (rw (at_new, link) (last_same ws ws' n places_kept (n + 1) _ _ (le_refl _) (L.heads _ known)));
-    heads = heads_added hs L.heads known;
-    spells = room_added spell_field ss ss' label.figures.spell.0 (omega arith) L.spells (ap (λ (a : State). a.figures.spell.0) A.is_label) S same_ss;
-    shifts = room_added shift_field fs fs' label.figures.shift.0 (omega arith) L.shifts (ap (λ (a : State). a.figures.shift.0) A.is_label) F same-fs;
-    as_many_spells = omega (arith, same_ss, L.as_many_spells, length-set hs label.junction (n + 1));
-    as_many_shifts = omega (arith, same-fs, L.as_many_shifts, length-set hs label.junction (n + 1));
-  }
+        K : RoomAt f ws' n label.junction (room (place_at ps label.junction))
+        K = kept label.junction known
+
+        here : RoomAt f ws' (n + 1) label.junction (room new_place)
+        here = record {
+          most = upto (λ k. junction_of ws' k ≡ label.junction → largest_word - field ws' k f ≤ room new_place) n (λ k low high r. omega (arith, is, K.most k low high r)) (λ r. omega (arith, is, new));
+          reached = λ p. go p (dec_le (room (place_at ps label.junction)) (largest_word - v));
+        }
+          where
+            go : 1 ≤ room new_place → Dec (room (place_at ps label.junction) ≤ largest_word - v)
+                → ∥ ((k : ℕ) × (1 ≤ k) × (k ≤ n + 1) × (junction_of ws' k ≡ label.junction) × (largest_word - field ws' k f ≡ room new_place)) ∥₁
+            go p (yes h) = ∣ (n + 1, omega arith, le_refl _, at_new, omega (arith, is, new)) ∣₁
+            go p (no h) = ∥∥₁_map (K.reached (omega (arith, is))) (λ t. (t.0, t.1, omega (arith, t.2), t.3, omega (arith, is, t.4)))
+
+    pub lists_added : label_words * (n + 1) ≤ length ws' → Lists ws' ps' (n + 1)
+    lists_added room = record {
+      room = room;
+      chain = upto (λ k. Last ws' k (junction_of ws' k) (previous_of ws' k)) n (lists_same (kept_labels ws ws' n A.kept) (omega arith) L).chain (rw (at_new, link) (last_same ws ws' n places_kept (n + 1) _ _ (le_refl _) (L.heads _ known)));
+      heads = heads_added;
+      spells = room_added spell_field (λ p. p.spell_room) label.figures.spell.0 (omega arith) L.spells (ap (λ (a : State). a.figures.spell.0) A.is_label) refl;
+      shifts = room_added shift_field (λ p. p.shift_room) label.figures.shift.0 (omega arith) L.shifts (ap (λ (a : State). a.figures.shift.0) A.is_label) refl;
+    }

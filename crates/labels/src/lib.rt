@@ -1,15 +1,16 @@
 // Settled labels in a lent run of words, and the list of the labels at each junction.
 #![tactic(auto)]
 
-ghost use Rattle.std.specs.Prelude.{◌≡◌, ◌+◌, ◌*◌, ◌<◌, ◌≤◌, length, set};
-ghost use Rattle.theory.specs.States.{Covered};
-ghost use Rattle.states.specs.States.{covers};
+mod settled;
+
+ghost use Rattle.std.specs.Prelude.{◌≡◌, ◌+◌, ◌-◌, ◌*◌, ◌<◌, ◌≤◌, length, set};
 ghost use Rattle.states.specs.LabelSpace.{label_words};
-ghost use Rattle.labels.specs.LabelWords.{cursor_field, winner_field, own_field, at, field, label_at, candidate_of, cursor_word, Packs, words_of, parent_of, winner_of, previous_of, own_of, settled, puts, WinnerWithin};
-ghost use Rattle.labels.specs.Lists.{Lists, LabelAdded, Says, Raised};
+ghost use Rattle.labels.specs.LabelWords.{largest_word, cursor_field, winner_field, own_field, at, field, label_at, candidate_of, cursor_word, Packs, words_of, parent_of, winner_of, previous_of, own_of, puts, WinnerWithin};
+ghost use Rattle.labels.specs.Lists.{Lists, LabelAdded};
 
 use driving::Figures;
 use seconds::{Clock, Wheel};
+pub use settled::SettledLabels;
 use states::State;
 
 // A label's words, in order: its state, and how the search goes on from it. The first is twice the
@@ -34,13 +35,12 @@ const PREVIOUS: usize = 8;
 
 const OWN: usize = 9;
 
-const LARGEST_WORD: u32 = 4294967295;
-
 // Above every junction, so that a candidate's cursor and junction share a word.
 const JUNCTION_BASE: u32 = 16384;
 
 // A label's candidate: the cursor that names it, 0 for none; its junction and its clock; whether
-// successors above it may be left that need a turn of their own.
+// successors above it may be left that need a turn of their own. No `Option`, since a label's words
+// hold each of these fields, and the lateness of NO_CLOCK puts a label without one behind all others.
 #[derive(Clone, Copy)]
 pub struct Candidate {
     pub cursor: u32,
@@ -59,6 +59,31 @@ impl Candidate {
         clock: Candidate::NO_CLOCK,
         more: false,
     };
+}
+
+// The labels at one junction: the last of them, 0 where there is none, and the most room that one of
+// them leaves for spell and for shift.
+#[derive(Clone, Copy)]
+pub struct Place {
+    pub last: u32,
+    pub spell_room: u32,
+    pub shift_room: u32,
+}
+
+impl Place {
+    // No label is there.
+    pub const EMPTY: Place = Place {
+        last: 0,
+        spell_room: 0,
+        shift_room: 0,
+    };
+}
+
+// How far a figure is below the largest word.
+fn room(figure: Wheel) -> u32
+    ensures { result ≡ largest_word - figure.0 }
+{
+    u32::MAX - figure.0
 }
 
 // Word f of label k.
@@ -143,11 +168,7 @@ fn cursor_word(c: Candidate) -> u32
     requires { Packs c }
     ensures { result ≡ cursor_word c }
 {
-    let both = JUNCTION_BASE * c.cursor + c.junction;
-    if c.more {
-        return 2 * both + 1;
-    }
-    2 * both
+    2 * (JUNCTION_BASE * c.cursor + c.junction) + u32::from(c.more)
 }
 
 pub fn set_candidate(words: &mut [u32], k: usize, c: Candidate)
@@ -164,40 +185,6 @@ pub fn set_winner(words: &mut [u32], k: usize, value: u32)
     ensures { words.new ≡ set words.old (at k winner_field) value }
 {
     words[State::LABEL_WORDS * (k - 1) + WINNER] = value;
-}
-
-// Whether some label of the n covers this one: is at the same junction, and no worse. Of the labels
-// up to `since` it is known that none does. `heads` has the last label at each junction, `spells`
-// and `shifts` the most room that a label there leaves for spell and shift.
-pub fn covered(
-    words: &[u32],
-    heads: &[u32],
-    spells: &[u32],
-    shifts: &[u32],
-    n: usize,
-    since: usize,
-    label: State,
-) -> bool
-    requires lists { Lists words.now heads.now spells.now shifts.now n × (label.junction < length heads.now) }
-    requires since_le_n { (since ≤ n) × (Covered covers (settled words.now since) label → ⊥) }
-    ensures { Says (Covered covers (settled words.now n) label) result }
-{
-    let j = label.junction as usize;
-    if spells[j] < LARGEST_WORD - label.figures.spell.0 {
-        return false;
-    }
-    if shifts[j] < LARGEST_WORD - label.figures.shift.0 {
-        return false;
-    }
-    let mut k = heads[j] as usize;
-    while since < k {
-        let there = read_label(words, k);
-        if states::covers(there, label) {
-            return true;
-        }
-        k = previous(words, k) as usize;
-    }
-    false
 }
 
 // Writes all words of a label, from word i on.
@@ -228,44 +215,34 @@ fn store(
     words[i + OWN] = c.clock.0;
 }
 
-// Raises an entry to the value, if it is below it.
-fn raise(most: &mut [u32], j: usize, value: u32)
-    requires { j < length most.old }
-    ensures { Raised most.old most.new j value }
-{
-    if most[j] < value {
-        most[j] = value;
-    }
-}
-
 // Label n + 1 comes in, as the last at its junction and as the winner of its own node.
 pub fn add_label(
     words: &mut [u32],
-    heads: &mut [u32],
-    spells: &mut [u32],
-    shifts: &mut [u32],
+    places: &mut [Place],
     n: usize,
     label: State,
     parent: u32,
     c: Candidate,
 )
-    requires lists { Lists words.old heads.old spells.old shifts.old n × (label.junction < length heads.old) }
+    requires lists { Lists words.old places.old n × (label.junction < length places.old) }
     requires n_bound { (n + 1 < 4294967296) × (label_words * (n + 1) ≤ length words.old) }
     requires junction_bound { (label.junction < 2147483648) × Packs c }
-    ensures { LabelAdded words.old words.new heads.new spells.new shifts.new n label parent c }
+    ensures { LabelAdded words.old words.new places.new n label parent c }
 {
-    let j = label.junction as usize;
-    let previous = heads[j];
+    let k = n as u32 + 1;
+    let place = places[label.junction as usize];
     store(
         words,
         State::LABEL_WORDS * n,
         label,
         parent,
         c,
-        (n + 1) as u32,
-        previous,
+        k,
+        place.last,
     );
-    heads[j] = (n + 1) as u32;
-    raise(spells, j, LARGEST_WORD - label.figures.spell.0);
-    raise(shifts, j, LARGEST_WORD - label.figures.shift.0);
+    places[label.junction as usize] = Place {
+        last: k,
+        spell_room: place.spell_room.max(room(label.figures.spell)),
+        shift_room: place.shift_room.max(room(label.figures.shift)),
+    };
 }

@@ -1,25 +1,27 @@
 -- The beginning of the search in its words: the lists of no label, and the start as label 1. Assumes nothing.
 use mathlib.Core.Path.{◌≡◌, ◌∙◌, sym, ap, subst}
-use mathlib.Core.Bool.{Bool}
 use mathlib.Core.List.{List, [], ◌∷◌}
 use Prim.Native.Nat.{ℕ, ◌*◌, ◌≤◌, ◌<◌}
 use native.Mathlib.Omega.{arith}
 use native.Mathlib.Nat.{le_refl}
-use lib.ListN.{length, get_or, replicate, length-replicate, get_or-replicate}
+use lib.ListN.{length}
+use Rattle.driving.specs.declared.Order.{Order}
 use Rattle.states.specs.declared.State.{State}
-use Rattle.moves.specs.Trip.{Trip, junctions_in}
-use Rattle.moves.specs.declared.Run.{Run}
-use Rattle.moves.specs.Runs.{Tied, SoundTrip, RangeIn}
-use Rattle.moves.proofs.Rising.{run_starts}
 use Rattle.states.specs.States.{start_of}
-use Rattle.journeys.specs.Journeys.{start_in}
 use Rattle.states.specs.LabelSpace.{label_words}
+use Rattle.moves.specs.Trip.{Trip, junctions_in}
+use Rattle.moves.specs.declared.given.OpenRun.{OpenRun}
+use Rattle.moves.specs.OpenRuns.{searched_trip}
+use Rattle.moves.specs.Runs.{RangeIn}
+use Rattle.moves.proofs.Rising.{run_starts}
+use Rattle.journeys.specs.Journeys.{start_in}
 use Rattle.labels.specs.declared.Candidate.{Candidate}
+use Rattle.labels.specs.declared.Place.{Place}
 use Rattle.labels.specs.LabelWords.{settled, column}
-use Rattle.labels.specs.Lists.{Lists, LabelAdded}
-use Rattle.labels.proofs.Lists.{lists_none, lists_same}
+use Rattle.labels.specs.Lists.{LabelAdded}
+use Rattle.labels.proofs.Lists.{lists_same}
 use Rattle.candidates.specs.Next.{Passes, NextIs}
-use Rattle.candidates.specs.Trying.{hint_entries}
+use Rattle.candidates.proofs.Searched as searched
 use Rattle.winners.specs.Keys.{Ready}
 use Rattle.winners.specs.Mending.{Mended}
 use Rattle.winners.proofs.Keys.{only_labels}
@@ -34,71 +36,63 @@ use Rattle.search.proofs.Keeping.{added_kept}
 use Rattle.search.proofs.Turning.{passes_wider}
 use Rattle.search.proofs.Offering.{at_home, not_home}
 
-abbrev zeros : ℕ → List ℕ
-zeros size = replicate size 0
+module _ (run : OpenRun) where
+  abbrev trip : Trip
+  trip = searched_trip run
 
--- arrays of zeros are the lists of no label, with an entry for each of fewer junctions
-pub cleared : (ws : List ℕ) (size junctions : ℕ) → junctions < size → Lists ws (zeros size) (zeros size) (zeros size) 0 × (junctions < length (zeros size))
-cleared ws size junctions few =
-    let long : length (zeros size) ≡ size = length-replicate size 0 in
-    let none : ((j : ℕ) → j < size → get_or (zeros size) j 0 ≡ 0) = λ j h. get_or-replicate size j 0 0 h in
-    (lists_none ws (zeros size) (zeros size) (zeros size) size long long long none none none, omega (arith, long))
+  module _ {start : State} (is : start ≡ start_of run.about.order) where
+    pub start_within : RangeIn trip start
+    start_within = rw is (run_starts (searched.tied run) (searched.sound run))
 
--- and so many hints stand in as many words
-pub hints_cleared : hint_entries ≤ length (zeros hint_entries)
-hints_cleared = omega (arith, length-replicate {A = ℕ} hint_entries 0)
+    in_trip : start ≡ start_in trip
+    in_trip = is ∙ ap start_of (sym (searched.tied run).order)
 
-module _ {map : List ℕ} {banned : ℕ → Bool} {run : Run} {trip : Trip} (tied : Tied map banned run trip) (sound : SoundTrip trip) {start : State} (is : start ≡ start_of run.order) where
-  pub start_within : RangeIn trip start
-  start_within = rw is (run_starts tied sound)
+    -- the start has come in as the first label
+    module _ {ws ws₁ : List ℕ} {ps : List Place} {u : Candidate} (next : NextIs trip (settled ws 0) 0 start start u)
+        (A : LabelAdded ws ws₁ ps 0 start 0 u) where
+      pub first_ready : length ws₁ ≡ length ws → Ready trip ws₁ 1
+      first_ready long =
+          ready_added A.added trip (λ k low high. absurd (omega arith)) long (omega (arith, A.lists.room)) (omega arith) start_within next.fitting
 
-  in_trip : start ≡ start_in trip
-  in_trip = is ∙ ap start_of (sym tied.order)
-
-  -- the start has come in as the first label
-  module _ {ws ws₁ hs ss fs : List ℕ} {u : Candidate} (next : NextIs trip (settled ws 0) 0 start start u)
-      (A : LabelAdded ws ws₁ hs ss fs 0 start 0 u) where
-    pub first_ready : length ws₁ ≡ length ws → Ready trip ws₁ 1
-    first_ready long =
-        ready_added A.added trip (λ k low high. absurd (omega arith)) long (omega (arith, A.lists.room)) (omega arith) start_within next.fitting
-
-    loop_next : Passes trip (start_in trip ∷ []) 0 (start_in trip) (start_in trip) u.cursor
-    unfolding settled
-    loop_next = subst (λ (z : State). Passes trip (z ∷ []) 0 z z u.cursor) in_trip (passes_wider trip [] 0 start start start u.cursor (omega arith) next.passes)
-
-    module _ {ws' : List ℕ} (M : Mended trip ws₁ ws' 1) where
-      states : settled ws' 1 ≡ start_in trip ∷ []
+      loop_next : Passes trip (start_in trip ∷ []) 0 (start_in trip) (start_in trip) u.cursor
       unfolding settled
-      states = added_states ws ws₁ ws' A.added M.only ∙ ap (λ (z : State). z ∷ []) in_trip
+      loop_next = subst (λ (z : State). Passes trip (z ∷ []) 0 z z u.cursor) in_trip (passes_wider trip [] 0 start start start u.cursor (omega arith) next.passes)
 
-      cursors : cursors_of ws' 1 ≡ u.cursor ∷ []
-      unfolding column
-      cursors = added_cursors ws ws₁ ws' A.added M.only
+      module _ {ws' : List ℕ} (M : Mended trip ws₁ ws' 1) where
+        states : settled ws' 1 ≡ start_in trip ∷ []
+        unfolding settled
+        states = added_states ws ws₁ ws' A.added M.only ∙ ap (λ (z : State). z ∷ []) in_trip
 
-      parents : parents_of ws' 1 ≡ 0 ∷ []
-      unfolding column
-      parents = added_parents ws ws₁ ws' A.added M.only
+        cursors : cursors_of ws' 1 ≡ u.cursor ∷ []
+        unfolding column
+        cursors = added_cursors ws ws₁ ws' A.added M.only
 
-      pub begun : junctions_in trip < length hs → Begun trip ws' hs ss fs
-      begun wide =
-          record {
-            away = λ out. record {
-              low = omega arith;
-              lists = lists_same (only_labels ws₁ ws' M.only 1) (M.ready 1 (omega arith) (le_refl 1)).room A.lists;
-              wide = wide;
-              ready = M.ready;
-              tree = M.tree;
-              loop = rw (states, cursors, parents) (begin trip sound u.cursor out loop_next);
-              kept = added_kept trip ws ws₁ ws' A.added M.only (λ k low high. absurd (omega arith)) start next;
-            };
-            home = λ t. rw (states, parents) (begin_found trip sound t);
-          }
+        parents : parents_of ws' 1 ≡ 0 ∷ []
+        unfolding column
+        parents = added_parents ws ws₁ ws' A.added M.only
 
--- source and target are one junction, or not
-module _ (trip : Trip) where
-  pub begins_home : {ws hs ss fs : List ℕ} → trip.order.source ≡ trip.order.target → Begun trip ws hs ss fs → label_words * 1 ≤ length ws → EndsFound trip ws 1
-  begins_home same begun room =
-      record { answer = start_in trip; room = room; ended = begun.home (at_home trip (start_in trip) same) }
+        pub begun : junctions_in trip < length ps → Begun trip ws' ps
+        begun wide =
+            record {
+              away = λ out. record {
+                low = omega arith;
+                lists = lists_same (only_labels ws₁ ws' M.only 1) (M.ready 1 (omega arith) (le_refl 1)).room A.lists;
+                wide = wide;
+                ready = M.ready;
+                tree = M.tree;
+                loop = rw (states, cursors, parents) (begin trip (searched.sound run) u.cursor out loop_next);
+                kept = added_kept trip ws ws₁ ws' A.added M.only (λ k low high. absurd (omega arith)) start next;
+              };
+              home = λ t. rw (states, parents) (begin_found trip (searched.sound run) t);
+            }
 
-  pub begins_away : {ws hs ss fs : List ℕ} → (trip.order.source ≡ trip.order.target → ⊥) → Begun trip ws hs ss fs → Underway trip ws hs ss fs 1
-  begins_away apart begun = begun.away (not_home trip (start_in trip) apart)
+  -- source and target are one junction, or not
+  source : (start_in trip).junction ≡ run.about.order.source
+  source = ap (λ (o : Order). o.source) (searched.tied run).order
+
+  module _ {ws : List ℕ} {ps : List Place} (B : Begun trip ws ps) where
+    pub begins_home : run.about.order.source ≡ run.about.order.target → label_words * 1 ≤ length ws → EndsFound trip ws 1
+    begins_home same room = record { answer = start_in trip; room = room; ended = B.home (at_home run (start_in trip) (source ∙ same)) }
+
+    pub begins_away : (run.about.order.source ≡ run.about.order.target → ⊥) → Underway trip ws ps 1
+    begins_away apart = B.away (not_home run (start_in trip) (λ e. apart (sym source ∙ e)))

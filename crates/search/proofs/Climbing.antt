@@ -11,6 +11,7 @@ use Rattle.moves.specs.Trip.{Trip}
 use Rattle.moves.specs.Runs.{SoundTrip}
 use Rattle.states.proofs.Compared.{rank_order}
 use Rattle.labels.specs.declared.Candidate.{Candidate}
+use Rattle.labels.specs.declared.Place.{Place}
 use Rattle.labels.specs.LabelWords.{label_at, cursor_of, winner_of, settled}
 use Rattle.states.specs.RankNumber.{word_base, Small, rank_number}
 use Rattle.candidates.specs.Next.{Passes, NextIs}
@@ -40,8 +41,8 @@ later_key c c' r r' small small' low low' few later = go (dec_le (rank_number c'
         omega (arith, under, later.number same)
     go (no h) = omega (arith, under)
 
-module _ (trip : Trip) (sound : SoundTrip trip) {ws hs ss fs : List ℕ} {n : ℕ} (U : Underway trip ws hs ss fs n) (r : ℕ) (c : State) (won : Chosen trip ws n r c)
-    (ws' : List ℕ) (v : Candidate) (next : NextIs trip (settled ws n) (r - 1) (label_at ws r) c v) (A : Advanced trip ws ws' n r v) where
+module _ {trip : Trip} (sound : SoundTrip trip) {ws : List ℕ} {ps : List Place} {n : ℕ} (U : Underway trip ws ps n) {r : ℕ} {c : State} (won : Chosen trip ws n r c)
+    {ws' : List ℕ} {v : Candidate} (next : NextIs trip (settled ws n) (r - 1) (label_at ws r) c v) (A : Advanced trip ws ws' n r v) where
   leads' : LeastKey trip ws' n (winner_of ws' 1)
   leads' = leads trip ws' n U.low A.tree
 
@@ -69,9 +70,9 @@ module _ (trip : Trip) (sound : SoundTrip trip) {ws hs ss fs : List ℕ} {n : �
 
     later' : Later c (r - 1) (candidate trip ws' r') (r' - 1)
     later' =
-        subst₂ (λ (z z' : State). Later z (r - 1) z' (r' - 1)) (loop_candidate trip U r c won) candidate'
+        subst₂ (λ (z z' : State). Later z (r - 1) z' (r' - 1)) (loop_candidate U won) candidate'
         (covered_later trip (settled ws n) (cursors_of ws n) (parents_of ws n) U.loop (r - 1) won.winner v.cursor
-        (subst₂ (λ (s z : State). Passes trip (settled ws n) (r - 1) s z v.cursor) (sym (loop_state trip U r c won)) (sym (loop_candidate trip U r c won)) next.passes)
+        (subst₂ (λ (s z : State). Passes trip (settled ws n) (r - 1) s z v.cursor) (sym (loop_state U won)) (sym (loop_candidate U won)) next.passes)
         (r' - 1) winner')
 
     higher : key_at trip ws r < key_at trip ws' r'

@@ -7,15 +7,17 @@ use native.Mathlib.Omega.{arith}
 use native.Mathlib.Nat.{le_refl}
 use native.Mathlib.Decide.{dec_le, ℕ_discrete}
 use lib.Dec.{T}
-use lib.ListN.{length, get_or}
+use lib.ListN.{length}
 use Rattle.states.specs.declared.State.{State}
 use Rattle.states.specs.States.{covers}
 use Rattle.moves.specs.Trip.{Trip}
 use Rattle.theory.specs.States.{Covered}
 use Rattle.journeys.specs.Journeys.{succs}
 use Rattle.labels.specs.declared.Candidate.{Candidate}
-use Rattle.labels.specs.LabelWords.{label_at, cursor_of, previous_of, candidate_of, settled, Added}
+use Rattle.labels.specs.declared.Place.{Place}
+use Rattle.labels.specs.LabelWords.{label_at, cursor_of, candidate_of, settled, Added}
 use Rattle.labels.proofs.LabelWords.{same_label, settled_by_label, mem_settled}
+use Rattle.labels.specs.Lists.{place_at}
 use Rattle.labels.proofs.Lists.{covered_by}
 use Rattle.candidates.specs.Candidates.{result_at}
 use Rattle.candidates.specs.Next.{above, Needless, Spent, NextIs}
@@ -117,15 +119,11 @@ module _ {trip : Trip} {ws : List ℕ} {n k : ℕ} (K : Kept trip ws n k) (has :
   told_spent label read none = subst₂ (Spent trip (settled ws n) (k - 1)) (sym label) (sym is) (K.spent (sym (ap (λ (v : Candidate). v.more) read) ∙ none) has)
 
 -- What the search for a next candidate asks of the labels.
-module _ {trip : Trip} {ws hs ss fs : List ℕ} {n : ℕ} (U : Underway trip ws hs ss fs n) where
+module _ {trip : Trip} {ws : List ℕ} {ps : List Place} {n : ℕ} (U : Underway trip ws ps n) where
   -- those before one are in range
   pub ranged_before : (before : ℕ) → before ≤ n → Ranged trip ws before
   ranged_before before h k low high = (U.ready k low (omega (arith, h, high))).range
 
-  -- the last before label k at its junction stands there
-  pub told_previous : (k : ℕ) {s : State} {p : ℕ} → 1 ≤ k → k ≤ n → s ≡ label_at ws k → p ≡ previous_of ws k → Stands ws s.junction p
-  told_previous k low high label is = rw (label, is) (U.lists.chain k low high).same
-
-  -- and so does the last of all at a junction
-  pub told_head : (j : ℕ) → j < length hs → Stands ws j (get_or hs j 0)
+  -- the last of all at a junction stands there
+  pub told_head : (j : ℕ) → j < length ps → Stands ws j (place_at ps j).last
   told_head j h = (U.lists.heads j h).same

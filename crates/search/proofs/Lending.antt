@@ -2,10 +2,13 @@
 use mathlib.Core.Path.{◌≡◌, ◌∙◌, refl, sym, subst, subst₂}
 use mathlib.Core.List.{List, ◌++◌}
 use mathlib.Core.Option.{Option, none, some}
-use Prim.Native.Nat.{ℕ, ◌-◌, ◌*◌, ◌≤◌, ◌<◌}
+use Rattle.std.specs.Prelude.{Result, Err}
+use Prim.Native.Nat.{ℕ, ◌*◌, ◌≤◌, ◌<◌}
 use native.Mathlib.Omega.{arith}
-use lib.ListN.{length, get_or, drop, length-append, get_or-append}
-use borrow.Rule.Slice.PartMut.{mid_of, put_mid, mid_len, drop_put}
+use native.Mathlib.Nat.{le_refl}
+use lib.ListN.{length, get_or, take, drop, length-append, get_or-append}
+use Rattle.std.proofs.lemmas.List.{length-take-le}
+use Rattle.std.proofs.lemmas.Slice.{drop-append-drop}
 use Rattle.states.specs.declared.State.{State}
 use Rattle.moves.specs.Trip.{Trip}
 use Rattle.moves.specs.Runs.{SoundTrip}
@@ -14,13 +17,13 @@ use Rattle.journeys.proofs.Labels.{label_some}
 use Rattle.labels.specs.LabelWords.{parent_field, previous_field, at, parent_of, Same, settled}
 use Rattle.labels.proofs.LabelWords.{column_same, settled_same}
 use Rattle.settling.specs.Settling.{Ended}
-use Rattle.search.specs.declared.Outcome.{Outcome}
+use Rattle.search.specs.declared.Unfound.{Unfound}
 use Rattle.search.specs.Underway.{parents_of}
 use Rattle.search.specs.Turns.{EndsFound, OutcomeSays, found, exhausted, full}
 use Rattle.search.specs.Searched.{Searched}
 
 -- no label fits, and the start is one
-pub none_fits : (trip : Trip) → SoundTrip trip → (ws : List ℕ) → labels_that_fit (length ws) ≡ 0 → Searched trip ws ws Outcome.Full
+pub none_fits : (trip : Trip) → SoundTrip trip → (ws : List ℕ) → labels_that_fit (length ws) ≡ 0 → Searched trip ws ws (Err Unfound.Full)
 none_fits trip sound ws shut =
     record { ends = full (omega (arith, shut, label_some trip sound)); beyond = refl }
 
@@ -52,7 +55,7 @@ part_found part rest n trip ends =
     }
 
 -- how the search ends in the part it ends in the whole
-part_ends : (trip : Trip) (fit : ℕ) (part rest : List ℕ) (outcome : Outcome) → label_words * fit ≤ length part
+part_ends : (trip : Trip) (fit : ℕ) (part rest : List ℕ) (outcome : Result ℕ Unfound) → label_words * fit ≤ length part
     → OutcomeSays trip fit part outcome → OutcomeSays trip fit (part ++ rest) outcome
 part_ends trip fit part rest outcome room (found ends few) =
     found (part_found part rest _ trip ends) few
@@ -60,11 +63,13 @@ part_ends trip fit part rest outcome room (exhausted ended few) =
     exhausted (part_ended part rest _ (omega (arith, room, few)) trip none ended) few
 part_ends trip fit part rest outcome room (full above) = full above
 
-pub part_searched : (trip : Trip) (ws part : List ℕ) (fit : ℕ) {outcome : Outcome} → fit ≡ labels_that_fit (length ws)
-    → length part ≡ length (mid_of 0 (label_words * fit - 0) ws) → OutcomeSays trip fit part outcome → Searched trip ws (put_mid 0 (label_words * fit - 0) ws part) outcome
-part_searched trip ws part fit {outcome} e kept says =
-    let long : length part ≡ label_words * fit - 0 = kept ∙ mid_len 0 (label_words * fit) ws (omega (arith, e)) in
+pub part_searched : (trip : Trip) (ws part : List ℕ) {fit : ℕ} {outcome : Result ℕ Unfound} → fit ≡ labels_that_fit (length ws)
+    → length part ≡ length (take (label_words * fit) ws) → OutcomeSays trip (labels_that_fit (length (take (label_words * fit) ws))) part outcome
+    → Searched trip ws (part ++ drop (label_words * fit) ws) outcome
+part_searched trip ws part {fit} {outcome} e kept says =
+    let lent : length (take (label_words * fit) ws) ≡ label_words * fit = length-take-le (label_words * fit) ws (omega (arith, e)) in
+    let same : labels_that_fit (length (take (label_words * fit) ws)) ≡ labels_that_fit (length ws) = omega (arith, e, lent) in
     record {
-      ends = subst (λ (k : ℕ). OutcomeSays trip k (put_mid 0 (label_words * fit - 0) ws part) outcome) e (part_ends trip fit part _ outcome (omega (arith, long)) says);
-      beyond = subst (λ (k : ℕ). drop (label_words * k) (put_mid 0 (label_words * fit - 0) ws part) ≡ drop (label_words * k) ws) e (drop_put 0 (label_words * fit) ws part (omega arith) (omega (arith, e)) long);
+      ends = part_ends trip _ part _ outcome (omega (arith, kept, lent, e)) (subst (λ (k : ℕ). OutcomeSays trip k part outcome) same says);
+      beyond = rw (← e) (drop-append-drop (label_words * fit) ws part (label_words * fit) (le_refl _) (kept ∙ lent));
     }

@@ -13,6 +13,7 @@ use Rattle.journeys.specs.Journeys.{at_target}
 use Rattle.journeys.specs.Labels.{label_count}
 use Rattle.states.specs.States.{covers}
 use Rattle.labels.specs.declared.Candidate.{Candidate}
+use Rattle.labels.specs.declared.Place.{Place}
 use Rattle.labels.specs.LabelWords.{settled}
 use Rattle.labels.specs.Lists.{LabelAdded}
 use Rattle.winners.specs.Keys.{no_key, key_at}
@@ -25,15 +26,15 @@ use Rattle.search.proofs.Columns.{states_length, added_states, added_parents}
 use Rattle.search.proofs.Leading.{all_shut}
 use Rattle.search.proofs.Turning.{loop_candidate}
 
-module _ (trip : Trip) (sound : SoundTrip trip) {ws hs ss fs : List ℕ} {n : ℕ} (U : Underway trip ws hs ss fs n) where
+module _ {trip : Trip} (sound : SoundTrip trip) {ws : List ℕ} {ps : List Place} {n : ℕ} (U : Underway trip ws ps n) where
   -- no candidate is left
-  pub ends_without : (r : ℕ) → LeastKey trip ws n r → no_key ≤ key_at trip ws r → Ended trip none (settled ws n) (parents_of ws n)
-  ends_without r leads shut =
+  pub ends_without : {r : ℕ} → LeastKey trip ws n r → no_key ≤ key_at trip ws r → Ended trip none (settled ws n) (parents_of ws n)
+  ends_without {r} leads shut =
       exhausted trip sound (settled ws n) (cursors_of ws n) (parents_of ws n) U.loop (all_shut trip sound ws n U.ready r leads shut)
 
-  module _ (r : ℕ) (c : State) (won : Chosen trip ws n r c) (new : Covered covers (settled ws n) c → ⊥) where
+  module _ {r : ℕ} {c : State} (won : Chosen trip ws n r c) (new : Covered covers (settled ws n) c → ⊥) where
     loop_new : ¬ Covered covers (settled ws n) (candidate_of trip (settled ws n) (cursors_of ws n) (r - 1))
-    loop_new = subst (λ (z : State). ¬ Covered covers (settled ws n) z) (sym (loop_candidate trip U r c won)) new
+    loop_new = subst (λ (z : State). ¬ Covered covers (settled ws n) z) (sym (loop_candidate U won)) new
 
     -- one more label than these
     pub more_labels : n < label_count trip
@@ -41,11 +42,11 @@ module _ (trip : Trip) (sound : SoundTrip trip) {ws hs ss fs : List ℕ} {n : �
         omega (arith, states_length trip ws n, turn_full trip sound (settled ws n) (cursors_of ws n) (parents_of ws n) U.loop (r - 1) won.winner loop_new)
 
     -- at target: the candidate is the answer, and the last label
-    pub ends_found : T (at_target trip c) → (ws₁ hs' ss' fs' : List ℕ) (u : Candidate) → LabelAdded ws ws₁ hs' ss' fs' n c r u
+    pub ends_found : T (at_target trip c) → {ws₁ : List ℕ} {ps' : List Place} {u : Candidate} → LabelAdded ws ws₁ ps' n c r u
         → Ended trip (some c) (settled ws₁ (n + 1)) (parents_of ws₁ (n + 1))
-    ends_found home ws₁ hs' ss' fs' u A =
+    ends_found home {ws₁} A =
         let back : r - 1 + 1 ≡ r = omega (arith, won.low) in
         rw (added_states ws ws₁ ws₁ A.added (only_refl ws₁), added_parents ws ws₁ ws₁ A.added (only_refl ws₁))
-        (subst₂ (λ (z : State) (p : ℕ). Ended trip (some z) (settled ws n ++ z ∷ []) (parents_of ws n ++ p ∷ [])) (loop_candidate trip U r c won) back
+        (subst₂ (λ (z : State) (p : ℕ). Ended trip (some z) (settled ws n ++ z ∷ []) (parents_of ws n ++ p ∷ [])) (loop_candidate U won) back
         (turn_found trip sound (settled ws n) (cursors_of ws n) (parents_of ws n) U.loop (r - 1) won.winner loop_new
-        (subst (λ (z : State). T (at_target trip z)) (sym (loop_candidate trip U r c won)) home)))
+        (subst (λ (z : State). T (at_target trip z)) (sym (loop_candidate U won)) home)))

@@ -15,6 +15,7 @@ use Rattle.journeys.specs.Journeys.{at_target}
 use Rattle.states.specs.States.{covers}
 use Rattle.journeys.proofs.Laws.{laws}
 use Rattle.labels.specs.declared.Candidate.{Candidate}
+use Rattle.labels.specs.declared.Place.{Place}
 use Rattle.labels.specs.LabelWords.{label_at, cursor_of, winner_of, settled}
 use Rattle.labels.specs.Lists.{LabelAdded}
 use Rattle.labels.proofs.Lists.{lists_same}
@@ -42,10 +43,10 @@ passes_wider trip L before c s bound v h next =
     }
 
 -- the key below which the search is, told otherwise
-pub onward_as : {trip : Trip} {k k' : ℕ} {ws hs ss fs : List ℕ} {n : ℕ} → k ≡ k' → Onward trip k ws hs ss fs n → Onward trip k' ws hs ss fs n
+pub onward_as : {trip : Trip} {k k' : ℕ} {ws : List ℕ} {ps : List Place} {n : ℕ} → k ≡ k' → Onward trip k ws ps n → Onward trip k' ws ps n
 onward_as {trip} {ws = ws} e O = record { underway = O.underway; higher = subst (λ (k : ℕ). k < key_at trip ws (winner_of ws 1)) e O.higher }
 
-module _ (trip : Trip) {ws hs ss fs : List ℕ} {n : ℕ} (U : Underway trip ws hs ss fs n) (r : ℕ) (c : State) (won : Chosen trip ws n r c) where
+module _ {trip : Trip} {ws : List ℕ} {ps : List Place} {n : ℕ} (U : Underway trip ws ps n) {r : ℕ} {c : State} (won : Chosen trip ws n r c) where
   -- the loop's candidate is c, and its label the one in the words
   pub loop_candidate : candidate_of trip (settled ws n) (cursors_of ws n) (r - 1) ≡ c
   loop_candidate = candidate_is trip ws n r won.low won.high ∙ sym won.is
@@ -54,9 +55,9 @@ module _ (trip : Trip) {ws hs ss fs : List ℕ} {n : ℕ} (U : Underway trip ws 
   loop_state = state_is trip ws n r won.low won.high
 
   -- the candidate is covered, and the label has its next
-  pub passed_over : (ws' : List ℕ) (v : Candidate) → Covered covers (settled ws n) c
-      → NextIs trip (settled ws n) (r - 1) (label_at ws r) c v → Advanced trip ws ws' n r v → Underway trip ws' hs ss fs n
-  passed_over ws' v cov next A =
+  pub passed_over : {ws' : List ℕ} {v : Candidate} → Covered covers (settled ws n) c
+      → NextIs trip (settled ws n) (r - 1) (label_at ws r) c v → Advanced trip ws ws' n r v → Underway trip ws' ps n
+  passed_over {v = v} cov next A =
       record {
         low = U.low;
         lists = lists_same (advanced_labels A) (A.ready n U.low (le_refl n)).room U.lists;
@@ -74,8 +75,8 @@ module _ (trip : Trip) {ws hs ss fs : List ℕ} {n : ℕ} (U : Underway trip ws 
           (subst₂ (λ (s z : State). Passes trip (settled ws n) (r - 1) s z v.cursor) (sym loop_state) (sym loop_candidate) next.passes)
 
   -- the candidate is not covered and not at target: it is the next label
-  module _ (sound : SoundTrip trip) (new : ¬ Covered covers (settled ws n) c) (out : ¬ T (at_target trip c)) (ws₁ ws' hs' ss' fs' : List ℕ) (u : Candidate)
-      (next : NextIs trip (settled ws n) n c c u) (A : LabelAdded ws ws₁ hs' ss' fs' n c r u)
+  module _ (sound : SoundTrip trip) (new : ¬ Covered covers (settled ws n) c) (out : ¬ T (at_target trip c)) {ws₁ ws' : List ℕ} {ps' : List Place} {u : Candidate}
+      (next : NextIs trip (settled ws n) n c c u) (A : LabelAdded ws ws₁ ps' n c r u)
       (M : Mended trip ws₁ ws' (n + 1)) where
     abbrev cand : State
     cand = candidate_of trip (settled ws n) (cursors_of ws n) (r - 1)
@@ -100,7 +101,7 @@ module _ (trip : Trip) {ws hs ss fs : List ℕ} {n : ℕ} (U : Underway trip ws 
         (subst (λ (z : State). ¬ Covered covers (settled ws n) z) (sym loop_candidate) new)
         (subst (λ (z : State). ¬ T (at_target trip z)) (sym loop_candidate) out))
 
-    pub settles : length hs' ≡ length hs → Underway trip ws' hs' ss' fs' (n + 1)
+    pub settles : length ps' ≡ length ps → Underway trip ws' ps' (n + 1)
     settles wide =
         record {
           low = omega (arith, U.low);

@@ -4,6 +4,7 @@ use Rattle.states.specs.declared.State.{State}
 use Rattle.moves.specs.Trip.{Trip, junctions_in}
 use Rattle.theory.specs.States.{Covered}
 use Rattle.states.specs.States.{covers}
+use Rattle.labels.specs.declared.Place.{Place}
 use Rattle.labels.specs.LabelWords.{label_at, cursor_of, more_of, parent_of, winner_of, column, settled}
 use Rattle.labels.specs.Lists.{Lists}
 use Rattle.labels.specs.Tree.{Tree}
@@ -25,11 +26,11 @@ pub record Kept (trip : Trip) (ws : List ℕ) (n k : ℕ) : Type 0 where
   -- where no more are left, no successor above it needs a turn
   pub spent : more_of ws k ≡ false → 1 ≤ cursor_of ws k → Spent trip (settled ws n) (k - 1) (label_at ws k) (candidate trip ws k)
 
-pub record Underway (trip : Trip) (ws hs ss fs : List ℕ) (n : ℕ) : Type 0 where
+pub record Underway (trip : Trip) (ws : List ℕ) (ps : List Place) (n : ℕ) : Type 0 where
   pub low : 1 ≤ n
   -- the labels of each junction are linked
-  pub lists : Lists ws hs ss fs n
-  pub wide : junctions_in trip < length hs
+  pub lists : Lists ws ps n
+  pub wide : junctions_in trip < length ps
   -- the lowest-ranked candidate is at the root
   pub ready : Ready trip ws n
   pub tree : Tree (key_at trip ws) ws n
@@ -47,6 +48,6 @@ pub record Chosen (trip : Trip) (ws : List ℕ) (n r : ℕ) (c : State) : Type 0
   pub winner : Winner trip (settled ws n) (cursors_of ws n) (r - 1)
 
 -- the search goes on with n labels, and its lowest candidate's key is above the one given
-pub record Onward (trip : Trip) (key : ℕ) (ws hs ss fs : List ℕ) (n : ℕ) : Type 0 where
-  pub underway : Underway trip ws hs ss fs n
+pub record Onward (trip : Trip) (key : ℕ) (ws : List ℕ) (ps : List Place) (n : ℕ) : Type 0 where
+  pub underway : Underway trip ws ps n
   pub higher : key < key_at trip ws (winner_of ws 1)

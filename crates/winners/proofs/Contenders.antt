@@ -1,15 +1,14 @@
 -- Labels as contenders, and the better of two of them. Assumes nothing.
 use mathlib.Core.Path.{◌≡◌, ◌∙◌, refl, sym, ap, ap₂, subst}
-use mathlib.Core.Bool.{true, false, not}
+use mathlib.Core.Bool.{Bool, true, false, not}
 use mathlib.Core.List.{List}
 use mathlib.Core.Logic.{inl, inr, ⊎_elim}
 use Prim.Native.Nat.{ℕ, zero, suc, ◌+◌, ◌*◌, ◌≤◌, ◌<◌}
 use native.Mathlib.Omega.{arith}
 use native.Mathlib.Nat.{le_refl}
-use native.Mathlib.Decide.{dec_le}
-use borrow.Author.Tests.{ltb-true, ltb-false, not-true, not-false}
-use lib.Dec.{ltb}
-use lib.ListN.{length, set}
+use native.Mathlib.Decide.{dec_le, dec_lt}
+use borrow.Author.Tests.{not-true, not-false}
+use lib.ListN.{length}
 use Rattle.states.specs.declared.State.{State}
 use Rattle.states.specs.States.{ranks_no_higher}
 use Rattle.states.proofs.Ranks.{rank_low, rank_high}
@@ -20,13 +19,13 @@ use Rattle.moves.specs.Runs.{SoundTrip}
 use Rattle.moves.proofs.Rising.{clock_high}
 use Rattle.labels.specs.declared.Candidate.{Candidate}
 use Rattle.states.specs.RankNumber.{word_base, rank_number}
-use Rattle.labels.specs.LabelWords.{winner_field, at, label_at, cursor_of, own_of}
+use Rattle.labels.specs.LabelWords.{label_at, cursor_of, own_of}
 use Rattle.labels.specs.Tree.{Better}
 use Rattle.candidates.specs.Candidates.{no_clock}
 use Rattle.candidates.proofs.Results.{clock_some, clock_none}
 use Rattle.winners.specs.declared.Contender.{Contender}
 use Rattle.winners.specs.Keys.{no_key, key_at, candidate, Sound, Entrant, OnlyWinners}
-use Rattle.winners.specs.Mending.{lead_clock, Told, Stands, Named, Best, Earlier, Live, Precedes, Decided}
+use Rattle.winners.specs.Mending.{lead_clock, Told, Stands, Named, Best, Earlier, Live, Precedes}
 use Rattle.winners.proofs.Keys.{key_none, key_shut, key_open, key_top, result_range, result_small, same_sound, only_label, only_candidate}
 
 -- a later clock ranks higher
@@ -124,19 +123,12 @@ module _ (trip : Trip) (sound : SoundTrip trip) (ws : List ℕ) where
       both_none none =
           lead_none a.label a.clock.0 A.entrant A.clock (omega arith) ∙ sym (lead_none b.label b.clock.0 B.entrant B.clock (omega arith))
 
--- the new one comes first where its clock is earlier, of two that differ
+-- of two whose clocks differ the new one comes first where its clock is the earlier
 pub precedes_clock :
-    (trip : Trip) → SoundTrip trip → (ws : List ℕ) {old new : Contender} → Stands trip ws old → Stands trip ws new → (old.clock.0 ≡ new.clock.0 → ⊥)
-    → Precedes trip ws new.label old.label (ltb new.clock.0 old.clock.0)
-precedes_clock trip sound ws {old} {new} O N differ =
-    record {
-      yes = λ e. sooner trip sound ws N O (ltb-true _ _ e);
-      no = λ e. sooner trip sound ws O N (strict (ltb-false _ _ e) (dec_le new.clock.0 old.clock.0));
-    }
-  where
-    strict : old.clock.0 ≤ new.clock.0 → Dec (new.clock.0 ≤ old.clock.0) → old.clock.0 < new.clock.0
-    strict h (yes q) = absurd (differ (omega arith))
-    strict h (no q) = omega arith
+    (trip : Trip) → SoundTrip trip → (ws : List ℕ) {old new : Contender} {before : Bool} → Stands trip ws old → Stands trip ws new
+    → (before ≡ true → new.clock.0 < old.clock.0) → (before ≡ false → old.clock.0 < new.clock.0) → Precedes trip ws new.label old.label before
+precedes_clock trip sound ws O N early late =
+    record { yes = λ e. sooner trip sound ws N O (early e); no = λ e. sooner trip sound ws O N (late e) }
 
 module _ {trip : Trip} {ws : List ℕ} {a b : Contender} where
   pub best_first : key_at trip ws a.label ≤ key_at trip ws b.label → Best trip ws a b a
@@ -148,27 +140,13 @@ module _ {trip : Trip} {ws : List ℕ} {a b : Contender} where
 -- by clocks, where these differ
 pub best_earlier :
     (trip : Trip) → SoundTrip trip → (ws : List ℕ) {a b r : Contender} → Stands trip ws a → Stands trip ws b → (a.clock.0 ≡ b.clock.0 → ⊥) → Earlier a b r → Best trip ws a b r
-best_earlier trip sound ws {a} {b} {r} A B differ E = go (dec_le a.clock.0 b.clock.0)
+best_earlier trip sound ws {a} {b} {r} A B differ E = go (dec_lt b.clock.0 a.clock.0)
   where
-    go : Dec (a.clock.0 ≤ b.clock.0) → Best trip ws a b r
-    go (yes h) = subst (Best trip ws a b) (sym (E.first h)) (best_first (sooner trip sound ws A B (strict h)))
-      where
-        strict : a.clock.0 ≤ b.clock.0 → a.clock.0 < b.clock.0
-        strict h = cut (dec_le b.clock.0 a.clock.0)
-          where
-            cut : Dec (b.clock.0 ≤ a.clock.0) → a.clock.0 < b.clock.0
-            cut (yes q) = absurd (differ (omega arith))
-            cut (no q) = omega arith
-    go (no h) = subst (Best trip ws a b) (sym (E.second (omega arith))) (best_second (sooner trip sound ws B A (omega arith)))
+    go : Dec (b.clock.0 < a.clock.0) → Best trip ws a b r
+    go (yes h) = rw (E.second h) (best_second (sooner trip sound ws B A h))
+    go (no h) = rw (E.first (omega arith)) (best_first (sooner trip sound ws A B (omega (arith, differ))))
 
 -- A label as a contender.
-pub told_none : (ws : List ℕ) {k : ℕ} → k ≡ 0 → Told ws k (record { label = 0; clock = record { 0 = no_clock } })
-told_none ws e = rw e (record { is = refl; clock = refl })
-
-pub told_own : {ws : List ℕ} (k : ℕ) {clock : ℕ} → 1 ≤ k → clock ≡ own_of ws k → Told ws k (record { label = k; clock = record { 0 = clock } })
-told_own zero low is = absurd (omega arith)
-told_own (suc k) low is = record { is = refl; clock = is }
-
 pub named : {trip : Trip} {ws : List ℕ} {k : ℕ} {c : Contender} → Entrant trip ws k → k < word_base → Told ws k c → Named trip ws k c
 named {trip} {ws} {k} {c} E small T =
     record {
@@ -207,19 +185,3 @@ stands_kept {trip} {c} ws ws' long only S =
 -- the better of two labels of 1 .. n is one
 pub best_within : {trip : Trip} {ws : List ℕ} {a b r : Contender} (n : ℕ) → Best trip ws a b r → a.label ≤ n → b.label ≤ n → r.label ≤ n
 best_within n P p q = ⊎_elim (λ e. subst (λ (c : Contender). c.label ≤ n) (sym e) p) (λ e. subst (λ (c : Contender). c.label ≤ n) (sym e) q) P.one
-
--- the best of three is stored at its node
-pub decided :
-    {trip : Trip} {ws ws' : List ℕ} {n k r : ℕ} {below own between beside best : Contender} → Stands trip ws below → Named trip ws k own → Named trip ws r beside
-    → Best trip ws below own between → Best trip ws between beside best → below.label ≤ n → k ≤ n → r ≤ n → ws' ≡ set ws (at k winner_field) best.label
-    → Decided trip ws ws' n below.label k r best
-decided {trip} {ws} {n} {below} {between} {best} L K R P Q l k r is =
-    let middle = stands_best L K.stands P in
-    record {
-      between = between.label;
-      first = subst (λ (x : ℕ). Better (key_at trip ws) below.label x between.label) K.is (best_better P);
-      second = subst (λ (x : ℕ). Better (key_at trip ws) between.label x best.label) R.is (best_better Q);
-      stored = is;
-      stands = stands_best middle R.stands Q;
-      within = best_within n Q (best_within n P l (omega (arith, K.is))) (omega (arith, R.is));
-    }

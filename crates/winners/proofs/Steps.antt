@@ -21,9 +21,9 @@ use Rattle.labels.specs.declared.Candidate.{Candidate}
 use Rattle.candidates.specs.Candidates.{Fitting}
 use Rattle.winners.specs.declared.Contender.{Contender}
 use Rattle.winners.specs.Keys.{no_key, key_at, Sound, Ready, OnlyWinners}
-use Rattle.winners.specs.Mending.{Stands, Named, Decided, Carries, Climbed, Mended, Advanced, Enters, Placed, LeastKey}
-use Rattle.winners.proofs.Keys.{key_none, key_below, key_top, same_key, same_cursor, same_sound, only_labels, only_candidate, key_kept, ready_kept}
-use Rattle.winners.proofs.Contenders.{stands_kept}
+use Rattle.winners.specs.Mending.{Told, Stands, Named, Decided, Carries, Climbed, Mended, Advanced, Enters, Placed, LeastKey}
+use Rattle.winners.proofs.Keys.{fitting_packs, key_none, key_below, key_top, same_key, same_cursor, same_sound, only_labels, only_candidate, key_kept, ready_kept}
+use Rattle.winners.proofs.Contenders.{named, stands_kept}
 
 -- A store of winners.
 pub only_refl : (ws : List ℕ) → OnlyWinners ws ws
@@ -88,15 +88,14 @@ module _ {trip : Trip} where
   pub afresh : {ws : List ℕ} {n j : ℕ} {c : Contender} → Carries trip ws n j c → Climbed trip ws ws n j c
   afresh {ws} C = record { carries = C; only = only_refl ws; long = refl }
 
-  pub onward :
-      {ws₀ ws ws' : List ℕ} {n j i : ℕ} {c c' : Contender} → Climbed trip ws₀ ws n j c → Climbed trip ws ws' n i c' → Climbed trip ws₀ ws' n i c'
-  onward {ws₀} {ws} {ws'} C D = record { carries = D.carries; only = only_trans ws₀ ws ws' C.only D.only; long = D.long ∙ C.long }
-
   pub mended : {ws₀ ws : List ℕ} {n j : ℕ} {c : Contender} → Climbed trip ws₀ ws n j c → j ≤ 1 → Mended trip ws₀ ws n
   mended C h = record { ready = C.carries.ready; tree = mend_end C.carries.mending h; only = C.only }
 
   -- A candidate is changed, and the path above its label mended.
-  module _ (ws : List ℕ) (n k : ℕ) (c : Candidate) (packs : Packs c) (low : 1 ≤ k) (high : k ≤ n) (ready : Ready trip ws n) where
+  module _ (sound : SoundTrip trip) {ws : List ℕ} {n k : ℕ} {c : Candidate} (low : 1 ≤ k) (high : k ≤ n) (ready : Ready trip ws n) (fits : Fitting trip (label_at ws k) c) where
+    pub packs : Packs c
+    packs = fitting_packs trip sound _ _ (ready k low high).range fits
+
     abbrev ws₀ : List ℕ
     ws₀ = set ws (at k cursor_field) (cursor_word c)
 
@@ -126,8 +125,8 @@ module _ {trip : Trip} where
         ∙ set_same ws k cursor_field (cursor_word c) (omega arith) low (ready k low high).room)
         (set_same ws₀ k own_field c.clock.0 (omega arith) low (rw (length-set ws (at k cursor_field) (cursor_word c)) (ready k low high).room))
 
-    pub turned_ready : Fitting trip (label_at ws k) c → Ready trip ws₁ n
-    turned_ready fits m a b = go (ℕ_discrete m k)
+    pub turned_ready : Ready trip ws₁ n
+    turned_ready m a b = go (ℕ_discrete m k)
       where
         go : Dec (m ≡ k) → Sound trip ws₁ m
         go (no off) = same_sound trip ws ws₁ m long (same m a) (other m a off) (ready m a b)
@@ -172,6 +171,13 @@ module _ {trip : Trip} where
   module _ {ws : List ℕ} {n j : ℕ} {new : Contender} (E : Enters trip ws n j new) (low : 1 ≤ j) where
     pub old_within : winner_of ws j ≤ n
     old_within = (E.entering.path j low (under_self j)).small
+
+    -- the node's winner, as a contender
+    pub old_named : {r : ℕ} {old : Contender} → r ≡ winner_of ws j → Told ws r old → Named trip ws (winner_of ws j) old
+    old_named {r} {old} is told =
+        let last = (E.ready (n + 1) (omega arith) (le_refl _)).small in
+        subst (λ (x : ℕ). Named trip ws x old) is
+        (named (λ p. E.ready r p (omega (arith, is, old_within))) (omega (arith, is, old_within, last)) told)
 
     module _ {old : Contender} (O : Named trip ws (winner_of ws j) old) where
       pub stays : SoundTrip trip → key_at trip ws old.label ≤ key_at trip ws new.label → Placed trip ws ws n j new false
@@ -220,12 +226,6 @@ pub record Entered (trip : Trip) (ws ws' : List ℕ) (n j : ℕ) (c : Contender)
   pub long : length ws' ≡ length ws
 
 module _ {trip : Trip} {ws ws' : List ℕ} {n j : ℕ} {c : Contender} (E : Entered trip ws ws' n j c) where
-  pub entered_more : {ws'' : List ℕ} → Placed trip ws' ws'' n j c true → Entered trip ws ws'' n (j / 2) c
-  entered_more {ws''} P = record { enters = P.more refl; only = only_trans ws ws' ws'' E.only P.only; long = P.long ∙ E.long }
-
-  pub entered_done : {ws'' : List ℕ} → Placed trip ws' ws'' n j c false → Mended trip ws ws'' (n + 1)
-  entered_done {ws''} P = let M = P.done refl in record { ready = M.ready; tree = M.tree; only = only_trans ws ws' ws'' E.only M.only }
-
   pub entered_end : j ≤ 0 → Mended trip ws ws' (n + 1)
   entered_end h = record { ready = E.enters.ready; tree = enter_end E.enters.entering h; only = E.only }
 

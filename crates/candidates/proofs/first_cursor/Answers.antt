@@ -1,19 +1,17 @@
-use Rattle.std.proofs.Common.{arith}
-use Rattle.moves.specs.Bans.{closed_in}
-use Rattle.moves.proofs.Trips.{run_tied}
-use Rattle.candidates.proofs.Roads.{first_road_lem, no_first_road}
+use Rattle.std.proofs.Common.{◌≡◌, arith}
+use Rattle.roadmap.specs.Format.{first_road}
+use Rattle.candidates.proofs.Roads.{junction_within, first_road_lem, no_first_road}
 use Rattle.candidates.proofs.first_cursor.Goals as goal
 
-pub first_road-road-requires-clause-le_j : goal.first_road-road-requires-clause-le_j
-first_road-road-requires-clause-le_j c =
-    (c.requires.range_in.low, omega (arith, c.requires.accepted.sized, c.requires.range_in.high, (run_tied c.args.map.now (closed_in c.args.closed.now) c.args.run).junctions))
+pub first_road-requires : goal.first_road-requires
+first_road-requires c = rw c.road_map.ensures.sizes (junction_within c.args.run.now c.requires.range_in)
 
-pub returns-then-road-gt0 : goal.returns-then-road-gt0
-returns-then-road-gt0 c =
-    rw c.first_road-road.ensures
-    (first_road_lem (run_tied c.args.map.now (closed_in c.args.closed.now) c.args.run) c.requires.accepted.mapped c.requires.range_in (rw c.first_road-road.ensures at c.if-road-gt0.true))
+pub returns-in-0 : goal.returns-in-0
+returns-in-0 c =
+    let road : c.first_road.result ≡ first_road c.args.run.now.map.now c.args.state.junction = rw (← c.road_map.ensures.bytes) c.first_road.ensures in
+    no_first_road c.args.run.now c.requires.range_in (omega (arith, road, c.in-0.is)) c.first_pause.ensures
 
-pub returns : goal.returns
-returns c =
-    no_first_road (run_tied c.args.map.now (closed_in c.args.closed.now) c.args.run) c.requires.accepted.mapped c.requires.range_in
-    (rw c.first_road-road.ensures at c.if-road-gt0.false) c.first_pause.ensures
+pub returns-in_default : goal.returns-in_default
+returns-in_default c =
+    let road : c.first_road.result ≡ first_road c.args.run.now.map.now c.args.state.junction = rw (← c.road_map.ensures.bytes) c.first_road.ensures in
+    rw road (first_road_lem c.args.run.now c.requires.range_in (omega (arith, road, c.in_default)))

@@ -1,4 +1,4 @@
-use Rattle.std.proofs.Common.{refl, sym, ap, ◌∙◌, true}
+use Rattle.std.proofs.Common.{◌∙◌, refl, sym, ap, true}
 use Rattle.booleans.proofs.Tests.{true_T}
 use Rattle.states.specs.declared.State.{State}
 use Rattle.states.proofs.Compared.{same_decides}

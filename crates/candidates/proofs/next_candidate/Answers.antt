@@ -6,7 +6,7 @@ use Rattle.candidates.proofs.next_candidate.Goals as goal
 pub loop-cursor-init : goal.loop-cursor-init
 loop-cursor-init c = record {
   worth = c.first_cursor-cursor.ensures.worth;
-  tried = tried_over c.first_cursor-cursor.ensures (tried_none _ _ c.args.before c.args.state c.args.bound);
+  tried = tried_over c.first_cursor-cursor.ensures (tried_none _ _ c.args.of.before c.args.of.state c.args.bound);
 }
 
 pub loop-cursor-preserved : goal.loop-cursor-preserved

@@ -1,38 +1,20 @@
-use Rattle.std.proofs.Common.{◌∙◌, ◌≤◌, arith}
-use Rattle.roadmap.specs.Format.{road_count}
-use Rattle.moves.specs.Bans.{closed_in}
-use Rattle.moves.proofs.Trips.{run_tied}
-use Rattle.moves.proofs.Stepped.{driven_in}
-use Rattle.moves.proofs.Rising.{run_sound, clock_high, drives_on}
+use Rattle.std.proofs.Common.{◌∙◌, arith}
+use Rattle.moves.proofs.Rising.{clock_high, drives_on}
+use Rattle.candidates.proofs.Searched.{sound, roads}
 use Rattle.candidates.proofs.Results.{result_drive, result_pause}
 use Rattle.candidates.proofs.result_at.Goals as goal
 
 pub after_drive-requires-clause-clock_bound : goal.after_drive-requires-clause-clock_bound
-after_drive-requires-clause-clock_bound c =
-    drives_on c.args.map.now (closed_in c.args.closed.now) c.args.run c.args.state c.requires.accepted c.requires.range_in
+after_drive-requires-clause-clock_bound c = drives_on _ _ _ c.args.state c.args.run.now.accepted c.requires.range_in
 
-pub returns-then-cursor-sizes : goal.returns-then-cursor-sizes
-returns-then-cursor-sizes c =
-    let tied = run_tied c.args.map.now (closed_in c.args.closed.now) c.args.run in
-    let high : c.args.cursor ≤ road_count c.args.map.now = omega (arith, c.if-cursor-sizes.true, c.requires.accepted.sized.roads) in
-    c.after_drive.ensures ∙ driven_in tied c.args.state c.args.cursor (c.requires.le_cursor.0, high) ∙ result_drive tied c.args.state c.args.cursor high
+pub returns-then-cursor-roads : goal.returns-then-cursor-roads
+returns-then-cursor-roads c = c.after_drive.ensures ∙ result_drive c.args.run.now c.args.state c.args.cursor c.requires.le_cursor.0 c.if-cursor-roads.true
 
-pub overflow_add-cursor : goal.overflow_add-cursor
-overflow_add-cursor c =
-    omega (arith, c.requires.le_cursor.1, (run_tied c.args.map.now (closed_in c.args.closed.now) c.args.run).roads, c.requires.accepted.sized.roads)
+pub pause_under-requires : goal.pause_under-requires
+pause_under-requires c = (c.if-cursor-roads.false, omega (arith, c.requires.le_cursor.1, roads c.args.run.now))
 
-pub after_pause-requires-clause-sound_rules : goal.after_pause-requires-clause-sound_rules
-after_pause-requires-clause-sound_rules c =
-    (c.requires.accepted.ordered.sound_rules, clock_high _ (run_sound c.args.map.now (closed_in c.args.closed.now) c.args.run c.requires.accepted) c.args.state c.requires.range_in)
-
-pub after_pause-requires-clause-first_pause_le_kind : goal.after_pause-requires-clause-first_pause_le_kind
-after_pause-requires-clause-first_pause_le_kind c = (
-  omega (arith, c.if-cursor-sizes.false),
-  omega (arith, c.if-cursor-sizes.false, c.requires.le_cursor.1, (run_tied c.args.map.now (closed_in c.args.closed.now) c.args.run).roads, c.requires.accepted.sized.roads),
-)
+pub after_pause-requires : goal.after_pause-requires
+after_pause-requires c = (c.args.run.now.accepted.ordered.sound_rules, clock_high _ (sound c.args.run.now) c.args.state c.requires.range_in)
 
 pub returns : goal.returns
-returns c =
-    c.after_pause.ensures
-    ∙ rw c.requires.accepted.sized.roads
-    (result_pause (run_tied c.args.map.now (closed_in c.args.closed.now) c.args.run) c.args.state c.args.cursor (omega (arith, c.if-cursor-sizes.false, c.requires.accepted.sized.roads)))
+returns c = c.after_pause.ensures ∙ rw c.pause_under.ensures (result_pause c.args.run.now c.args.state c.args.cursor c.if-cursor-roads.false)

@@ -9,5 +9,5 @@ returns c =
     let new = label_stored _ c.store.new.words _ c.args.label _ c.args.c _ c.requires.junction_bound.1 c.requires.n_bound.1 c.store.ensures in
     record {
       added = new.0;
-      lists = lists_added new.0 c.requires.lists.0 c.requires.lists.1 (omega (arith, c.store.auto.words)) new.1 c.raise.ensures c.raise.auto.most c.raise-2.ensures c.raise-2.auto.most;
+      lists = rw (c.max.ensures, c.room.ensures, c.max-2.ensures, c.room-2.ensures) (lists_added new.0 c.requires.lists.0 c.requires.lists.1 new.1 (omega (arith, c.store.auto.words)));
     }

@@ -1,10 +1,9 @@
 use Rattle.std.proofs.Common.{arith}
-use Rattle.moves.specs.Bans.{closed_in}
-use Rattle.moves.proofs.Trips.{run_tied}
+use Rattle.candidates.proofs.Searched as searched
 use Rattle.search.proofs.search_labels.Goals as goal
 
-pub search_few-requires-clause-run_bound : goal.search_few-requires-clause-run_bound
-search_few-requires-clause-run_bound c =
-    let a = c.args in
-    let accepted = c.requires.accepted in
-    omega (arith, (run_tied a.map.now (closed_in a.closed.now) a.run).junctions, accepted.sized.junctions)
+pub search_sized-requires-clause-places : goal.search_sized-requires-clause-places
+search_sized-requires-clause-places c = (omega (arith, searched.junctions c.args.run.now), omega arith)
+
+pub search_sized-requires-else-run-lt-FEW_ENTRIES-clause-places : goal.search_sized-requires-else-run-lt-FEW_ENTRIES-clause-places
+search_sized-requires-else-run-lt-FEW_ENTRIES-clause-places c = (omega (arith, (searched.sound c.args.run.now).few), omega arith)

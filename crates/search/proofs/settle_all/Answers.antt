@@ -1,21 +1,20 @@
-use Rattle.moves.specs.Bans.{closed_in}
-use Rattle.moves.proofs.Rising.{run_sound}
-use Rattle.search.proofs.Rounds.{between_next, key_left, outcome_found, outcome_exhausted, outcome_full}
+use Rattle.std.proofs.lemmas.Result.{err_from_is_err_and}
+use Rattle.candidates.proofs.Searched as searched
+use Rattle.search.proofs.Rounds.{goes_on, key_left, outcome_found, outcome_none}
 use Rattle.search.proofs.settle_all.Goals as goal
 
+pub returns-in_err-labels : goal.returns-in_err-labels
+returns-in_err-labels c =
+    let p = err_from_is_err_and c.from_residual.result c.from_residual.ensures.1 in
+    rw (p.1, p.2) (outcome_none c.loop-labels.invariant.fits (rw c.loop-labels.auto.words at c.in_err-labels.ensures))
+
 pub loop-labels-smaller : goal.loop-labels-smaller
-loop-labels-smaller c = let a = c.args in key_left _ (run_sound a.map.now (closed_in a.closed.now) a.run c.requires.accepted) c.in-Goes.ensures
+loop-labels-smaller c = key_left c.in_ok-labels.ensures (searched.sound c.args.run.now) c.in-Goes.is
 
 pub loop-labels-preserved : goal.loop-labels-preserved
 loop-labels-preserved c =
-    let long = c.take_turn-turn.auto in
-    between_next c.loop-labels.invariant long.words long.heads long.spells long.shifts long.hints c.in-Goes.ensures
+    let on = goes_on c.in_ok-labels.ensures c.in-Goes.is in
+    record { underway = on.0.underway; fits = rw (← c.loop-labels.auto.words) on.1 }
 
 pub returns-in-Found : goal.returns-in-Found
-returns-in-Found c = outcome_found c.in-Found.ensures
-
-pub returns-in-Exhausted : goal.returns-in-Exhausted
-returns-in-Exhausted c = outcome_exhausted c.loop-labels.invariant.fits c.in-Exhausted.ensures
-
-pub returns-in-Full : goal.returns-in-Full
-returns-in-Full c = outcome_full c.in-Full.ensures
+returns-in-Found c = outcome_found (rw c.loop-labels.auto.words at c.in_ok-labels.ensures) c.in-Found.is

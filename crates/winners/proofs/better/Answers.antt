@@ -1,10 +1,9 @@
-use Rattle.moves.specs.Bans.{closed_in}
-use Rattle.moves.specs.Runs.{trip_in}
-use Rattle.moves.proofs.Rising.{run_sound}
+use Rattle.std.proofs.Common.{arith}
+use Rattle.std.proofs.lemmas.Bool.Decides.{nat_tests}
+use Rattle.candidates.proofs.Searched as searched
 use Rattle.winners.proofs.Contenders.{best_earlier}
 use Rattle.winners.proofs.better.Goals as goal
 
-pub returns : goal.returns
-returns c =
-    let a = c.args in
-    best_earlier (trip_in a.map.now (closed_in a.closed.now) a.run) (run_sound a.map.now (closed_in a.closed.now) a.run c.requires.accepted) a.words.now c.requires.stands.0 c.requires.stands.1 c.if-a-b.false c.earlier.ensures
+pub returns-else-eq : goal.returns-else-eq
+returns-else-eq c =
+    best_earlier _ (searched.sound c.args.run.now) _ c.requires.0 c.requires.1 (λ e. grind (arith, nat_tests)) c.earlier.ensures

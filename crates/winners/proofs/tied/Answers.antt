@@ -1,18 +1,19 @@
-use Rattle.std.proofs.Common.{arith, le_refl}
-use Rattle.moves.specs.Bans.{closed_in}
-use Rattle.moves.specs.Runs.{trip_in}
-use Rattle.moves.proofs.Rising.{run_sound}
+use Rattle.std.proofs.Common.{arith}
+use Rattle.std.proofs.lemmas.Bool.Decides.{nat_tests}
+use Rattle.candidates.proofs.Searched as searched
 use Rattle.winners.proofs.Contenders.{both_live, both_none, best_first}
 use Rattle.winners.proofs.tied.Goals as goal
+use Rattle.winners.proofs.tied.Goals.{then-eq, else-eq}
 
-pub returns-then-a : goal.returns-then-a
-returns-then-a c =
-    let a = c.args in
-    let two = c.requires.stands in
-    best_first (rw (both_none (trip_in a.map.now (closed_in a.closed.now) a.run) (run_sound a.map.now (closed_in a.closed.now) a.run c.requires.accepted) a.words.now two.0 two.1 two.2 c.if-a.true) (le_refl _))
+pub precedes-requires : goal.precedes-requires
+precedes-requires c =
+    let two = c.requires in
+    both_live _ (searched.sound c.args.run.now) _ two.0 two.1 two.2 (grind (arith, nat_tests)) (omega arith)
 
-pub precedes-requires-clause-live : goal.precedes-requires-clause-live
-precedes-requires-clause-live c =
-    let a = c.args in
-    let two = c.requires.stands in
-    both_live (trip_in a.map.now (closed_in a.closed.now) a.run) (run_sound a.map.now (closed_in a.closed.now) a.run c.requires.accepted) a.words.now two.0 two.1 two.2 c.if-a.false (omega arith)
+pub returns-then-precedes : goal.returns-then-precedes
+returns-then-precedes c =
+    let two = c.requires in
+    best_first (elim c.if-eq.branch [
+      | then-eq w ↦ omega (arith, both_none _ (searched.sound c.args.run.now) _ two.0 two.1 two.2 (grind (arith, nat_tests)))
+      | else-eq w ↦ w.precedes.ensures.yes cc
+    ])
