@@ -7,9 +7,11 @@ use Prim.Native.Nat.{ℕ, ◌+◌, ◌≤◌}
 use native.Mathlib.Omega.{arith}
 use borrow.Author.Tests.{le-ltb}
 use lib.ListN.{length}
+use Rattle.std.specs.Prelude.{Result}
+use Rattle.replies.specs.declared.Refusal.{Refusal}
+use Rattle.replies.specs.declared.Timed.{Timed}
+use Rattle.replies.specs.declared.Plan.{Plan}
 use Rattle.replies.specs.declared.Reply.{Reply}
-use Rattle.replies.specs.declared.Planning.{Planning}
-use Rattle.replies.specs.declared.Timing.{Timing}
 use Rattle.replies.specs.First.{Test, ◌at◌, first_of, NoneFits}
 use Rattle.replies.specs.Told.{succeeded, told_timing, told_plan}
 use Rattle.replies.proofs.First.{none_of_both, none_at_all}
@@ -51,7 +53,7 @@ walk_leads tb ta k a {b} (go {m = m} {ms = ms} offered lawful rest) =
 pub none_run : {given : Given} → AcceptedRun given → NoneFits (run_tests given)
 none_run {given} accepted = none_of_both (map_tests given.map) (order_tests (junction_count given.map) given.order) accepted.mapped accepted.ordered
 
-module _ {a : Given} {words sheet sheet' : List ℕ} {answer : Planning} (w : Wrote a words sheet sheet' answer)
+module _ {a : Given} {words sheet sheet' : List ℕ} {answer : Result Plan Refusal} (w : Wrote a words sheet sheet' answer)
     {b : Given} (accepted-b : AcceptedRun b)
     {u : State} (journey : Journey (trip_from b) (plan_moves (trip_from a)) u)
     (out : List ℕ) (long : length (header_and_records sheet') ≤ length out) where
@@ -89,14 +91,14 @@ module _ {a : Given} {words sheet sheet' : List ℕ} {answer : Planning} (w : Wr
       ∙ ap (λ (m : ℕ). succeeded m u.clock.0) count_kept
 
 -- A's moves under B: where they lead, and what retiming replies
-pub record Afresh (b : Given) (sheetA' : List ℕ) (answerA : Planning) : Type 0 where
+pub record Afresh (b : Given) (sheetA' : List ℕ) (answerA : Result Plan Refusal) : Type 0 where
   pub state : State
   pub journey : Journey (trip_from b) (moves_read sheetA') state
   pub no_later : state.clock.0 ≤ (told_plan answerA).arrival
-  pub told : {out out' : List ℕ} {answer : Timing} → TimedAfresh b sheetA' out out' answer → told_timing answer ≡ succeeded (moves_on sheetA') state.clock.0
+  pub told : {out out' : List ℕ} {answer : Result Timed Refusal} → TimedAfresh b sheetA' out out' answer → told_timing answer ≡ succeeded (moves_on sheetA') state.clock.0
 
 pub afresh : {a b : Given} → AcceptedRun a → AcceptedRun b → EasierRun b a →
-    {wordsA wordsA' sheetA sheetA' : List ℕ} {answerA : Planning} → Planned a wordsA wordsA' sheetA sheetA' answerA → Plans answerA →
+    {wordsA wordsA' sheetA sheetA' : List ℕ} {answerA : Result Plan Refusal} → Planned a wordsA wordsA' sheetA sheetA' answerA → Plans answerA →
     Afresh b sheetA' answerA
 afresh {a} {b} accepted-a accepted-b easier run plans =
     let w = wrote accepted-a run plans in

@@ -15,7 +15,7 @@ use Rattle.replies.specs.Told.{succeeded}
 use Rattle.replies.proofs.First.{none_fitted, none_at_all, none_before, none_behind, none_under}
 use Rattle.mapcheck.proofs.Counts.{placed_none}
 use Rattle.states.specs.declared.State.{State}
-use Rattle.moves.specs.declared.Step.TheVariants.{Moved}
+use Rattle.std.specs.Prelude.{Ok}
 use Rattle.moves.specs.Trip.{Trip}
 use Rattle.moves.specs.Moves.{stepped}
 use Rattle.moves.specs.Given.{Given, order_from, trip_from}
@@ -37,7 +37,7 @@ walk_same : (trip : Trip) (k : ℕ) (s : State) (rs : List Row) {l : State} {ys 
 walk_same trip k s [] {l} {ys} e = cc (walk_end true trip k s)
 walk_same trip k s (row ∷ rs) {l} {ys} e = by (one_row true trip k s row) (λ t zs p. walk_same trip (k + 1) t rs p)
   where
-    own_clock_lem : (t : State) → stepped trip s (move_of row) ≡ Moved t → row.clock ≡ t.clock
+    own_clock_lem : (t : State) → stepped trip s (move_of row) ≡ Ok t → row.clock ≡ t.clock
     own_clock_lem t moved =
         ⊎_elim
         (λ (same : eqb row.clock.0 t.clock.0 ≡ true). ap (λ (n : ℕ). record { 0 = n }) (eqb-true _ _ same))

@@ -7,9 +7,10 @@ use Prim.Native.Nat.{ℕ, ◌+◌}
 use borrow.Author.Tests.{ltb-true, ltb-false}
 use lib.Dec.{ltb}
 use lib.ListN.{length, get_or}
+use Rattle.std.specs.Prelude.{Result}
+use Rattle.replies.specs.declared.Refusal.{Refusal}
 use Rattle.booleans.proofs.Tests.{cases}
 use Rattle.words.proofs.Put.{Apart}
-use Rattle.replies.specs.declared.Check.{Check}
 use Rattle.replies.specs.declared.Reply.{Reply}
 use Rattle.replies.specs.First.{NoneFits}
 use Rattle.replies.specs.Told.{succeeded, told_check}
@@ -33,7 +34,7 @@ apart at p outside =
     (cases (ltb p (at + 4))))
     (cases (ltb p at))
 
-module _ {map map' : List ℕ} {answer : Check} (made : ChainMaking map map' answer) (done : (told_check answer).number ≡ 0) where
+module _ {map map' : List ℕ} {answer : Result (Unit {0}) Refusal} (made : ChainMaking map map' answer) (done : (told_check answer).number ≡ 0) where
   number_0 : (chaining_reply map).number ≡ 0
   number_0 = sym (ap (λ (r : Reply). r.number) made.reply) ∙ done
 

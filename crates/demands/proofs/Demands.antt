@@ -12,12 +12,11 @@ use native.Mathlib.Omega.{arith}
 use borrow.Author.Tests.{eq-eqb, ne_eqb}
 use lib.Dec.{T, eqb}
 use lib.ListN.{length, take, drop, get_or}
-use Rattle.replies.specs.declared.Check.{Check}
-use Rattle.replies.specs.declared.NameReply.{NameReply}
-use Rattle.replies.specs.declared.Planning.{Planning}
-use Rattle.replies.specs.declared.Replaying.{Replaying}
+use Rattle.std.specs.Prelude.{Result}
+use Rattle.replies.specs.declared.Refusal.{Refusal}
+use Rattle.replies.specs.declared.Timed.{Timed}
+use Rattle.replies.specs.declared.Plan.{Plan}
 use Rattle.replies.specs.declared.Reply.{Reply}
-use Rattle.replies.specs.declared.Timing.{Timing}
 use Rattle.replies.specs.First.{◌at◌, first_of}
 use Rattle.replies.specs.Told.{succeeded, refused_at, told_check, told_name, told_timing, told_plan, told_replaying}
 use Rattle.booleans.specs.Pick.{pick}
@@ -82,20 +81,20 @@ use Rattle.demands.proofs.Struck.{told_struck, leads_back, length_struck, struck
 
 -- "bad input gets its number and place from document 01": each refusal of the operation's list is told, with its place, exactly when it
 -- fits and none before it in the list does
-pub map_check_replies : (map : List ℕ) (answer : Check) → told_check answer ≡ first_of (map_tests map) (succeeded 0 0) → RepliesBy (map_tests map) (told_check answer)
+pub map_check_replies : (map : List ℕ) (answer : Result (Unit {0}) Refusal) → told_check answer ≡ first_of (map_tests map) (succeeded 0 0) → RepliesBy (map_tests map) (told_check answer)
 map_check_replies map answer told = replies_by (map_tests map) _ refl tt told
 
-pub order_check_replies : (junctions : ℕ) (order : List ℕ) (answer : Check) → told_check answer ≡ first_of (order_tests junctions order) (succeeded 0 0) →
+pub order_check_replies : (junctions : ℕ) (order : List ℕ) (answer : Result (Unit {0}) Refusal) → told_check answer ≡ first_of (order_tests junctions order) (succeeded 0 0) →
     RepliesBy (order_tests junctions order) (told_check answer)
 order_check_replies junctions order answer told = replies_by (order_tests junctions order) _ refl tt told
 
-pub name_replies : (map : List ℕ) (junction : ℕ) (answer : NameReply) → told_name answer ≡ name_reply map junction →
+pub name_replies : (map : List ℕ) (junction : ℕ) (answer : Result ℕ Refusal) → told_name answer ≡ name_reply map junction →
     RepliesBy (map_tests map ++ (20 at unknown_name map junction) ∷ []) (told_name answer)
 unfolding name_reply
 name_replies map junction answer told = replies_by (map_tests map ++ (20 at unknown_name map junction) ∷ []) _ refl tt told
 
 -- "the answer is the part of the lent map that spells that junction's name"; "whenever that reply refuses, the part is empty."
-module _ (map : List ℕ) (junction : ℕ) (answer : NameReply) {part : List ℕ} (told : told_name answer ≡ name_reply map junction) (handed : part ≡ name_part map junction) where
+module _ (map : List ℕ) (junction : ℕ) (answer : Result ℕ Refusal) {part : List ℕ} (told : told_name answer ≡ name_reply map junction) (handed : part ≡ name_part map junction) where
   pub name_spells : (told_name answer).number ≡ 0 → part ≡ take (name_length map junction) (drop (name_at map junction) map)
   unfolding name_part
   name_spells named = handed ∙ rw (eq-eqb _ _ (ap (λ (r : Reply). r.number) (sym told) ∙ named)) refl
@@ -116,13 +115,13 @@ pair_test_passes first second is-first is_second bad tested = (
   λ letters. tested ∙ rw ((letters_exactly first is-first).1 letters.0, (letters_exactly second is_second).1 letters.1) refl,
 )
 
-pub audit_replies : (given : Given) (sheet : List ℕ) (answer : Timing) → told_timing answer ≡ audit_reply given sheet →
+pub audit_replies : (given : Given) (sheet : List ℕ) (answer : Result Timed Refusal) → told_timing answer ≡ audit_reply given sheet →
     RepliesBy (audit_tests given sheet (timing true (trip_from given) sheet)) (told_timing answer)
 audit_replies given sheet answer told = replies_by (audit_tests given sheet (timing true (trip_from given) sheet)) _ refl (audit_numbered given sheet) told
 
 -- "Audit: retiming without writing, comparing clocks and header": the bytes of a sheet that passes hold a legal journey with true figures, whose
 -- arrival is the reply's
-module _ (given : Given) (sheet : List ℕ) (answer : Timing) (told : told_timing answer ≡ audit_reply given sheet) (done : (told_timing answer).number ≡ 0) where
+module _ (given : Given) (sheet : List ℕ) (answer : Result Timed Refusal) (told : told_timing answer ≡ audit_reply given sheet) (done : (told_timing answer).number ≡ 0) where
   pub audit_holds : (t : State) × HoldsJourney (trip_from given) sheet t × ((told_timing answer).arrival ≡ t.clock.0)
   audit_holds =
       let passed = rw told at done in
@@ -133,7 +132,7 @@ module _ (given : Given) (sheet : List ℕ) (answer : Timing) (told : told_timin
   unfolding trip_of
   audit_seconds = audit_holds.2 ∙ leads_clock (trip_from given) audit_holds.1.journey.leads
 
-module _ {map map' : List ℕ} {answer : Check} (made : ChainMaking map map' answer) where
+module _ {map map' : List ℕ} {answer : Result (Unit {0}) Refusal} (made : ChainMaking map map' answer) where
   pub chain_making_replies : RepliesBy (chaining_tests map) (told_check answer)
   unfolding chaining_reply
   chain_making_replies = replies_by (chaining_tests map) _ refl tt made.reply
@@ -156,7 +155,7 @@ module _ {map map' : List ℕ} {answer : Check} (made : ChainMaking map map' ans
   chain_making_passes = chained_passes made
 
 -- Document 02, P6: "Striking a road"
-module _ {map map' : List ℕ} {road : ℕ} {answer : Check} (run : Striking map road map' answer) where
+module _ {map map' : List ℕ} {road : ℕ} {answer : Result (Unit {0}) Refusal} (run : Striking map road map' answer) where
   pub striking_replies : RepliesBy (striking_tests map road) (told_check answer)
   unfolding striking_reply
   striking_replies = replies_by (striking_tests map road) _ refl tt run.reply
@@ -188,7 +187,7 @@ module _ {map map' : List ℕ} {road : ℕ} {answer : Check} (run : Striking map
 
 -- Document 02, P3: "We want them replayed from a trace"; P5: "The mark joins the lent figures and starts as lent."; P7: "The week joins the
 -- replay's lent figures".
-module _ {trace : List ℕ} {rules : Rules} {before after : Figures} {answer : Replaying} (replayed : Replayed trace rules before after answer) where
+module _ {trace : List ℕ} {rules : Rules} {before after : Figures} {answer : Result ℕ Refusal} (replayed : Replayed trace rules before after answer) where
   pub replay_replies : RepliesBy (replay_tests trace rules before) (told_replaying answer)
   replay_replies = replies_by (replay_tests trace rules before) _ refl tt replayed.reply
 
@@ -211,7 +210,7 @@ module _ {trace : List ℕ} {rules : Rules} {before after : Figures} {answer : R
 
 -- A trace and then another from the figures that it left: the same as both in one, where the first does not end in a pause or the second does
 -- not begin with one.
-module _ {one two : List ℕ} {rules : Rules} {before between after after_both : Figures} {first second both : Replaying}
+module _ {one two : List ℕ} {rules : Rules} {before between after after_both : Figures} {first second both : Result ℕ Refusal}
     (replayed-one : Replayed one rules before between first) (replayed-two : Replayed two rules between after second) (replayed-both : Replayed (one ++ two) rules before after_both both) where
   module _ (done : (told_replaying first).number ≡ 0) (apart : T (none_goes_on (records_of one) (records_of two))) where
     -- the reply is the second's, with what the first has before it
@@ -225,7 +224,7 @@ module _ {one two : List ℕ} {rules : Rules} {before between after after_both :
   pub replay_in_turn_refused : ¬ ((told_replaying first).number ≡ 0) → torn_trace one ≡ none → torn_trace two ≡ none → told_replaying both ≡ told_replaying first
   replay_in_turn_refused = told_first two replayed-one replayed-both
 
-module _ {given : Given} {sheet out out' : List ℕ} {answer : Timing} (retimed : Retimed given sheet out out' answer) where
+module _ {given : Given} {sheet out out' : List ℕ} {answer : Result Timed Refusal} (retimed : Retimed given sheet out out' answer) where
   pub retiming_replies : RepliesBy (retiming_tests given sheet out (timing false (trip_from given) sheet)) (told_timing answer)
   retiming_replies = replies_by (retiming_tests given sheet out (timing false (trip_from given) sheet)) _ refl (retiming_numbered given sheet out) retimed.reply
 
@@ -255,10 +254,10 @@ module _ {given : Given} {sheet out out' : List ℕ} {answer : Timing} (retimed 
     retiming_seconds = retiming_writes.2 ∙ leads_clock (trip_from given) retiming_writes.1.journey.leads
 
     -- its header and M records pass the audit, with the same reply
-    pub retiming_audited : (audited : Timing) → told_timing audited ≡ audit_reply given (header_and_records out') → told_timing audited ≡ told_timing answer
+    pub retiming_audited : (audited : Result Timed Refusal) → told_timing audited ≡ audit_reply given (header_and_records out') → told_timing audited ≡ told_timing answer
     retiming_audited audited told = told ∙ retimed_passes retimed done
 
-module _ {given : Given} {words words' sheet sheet' : List ℕ} {answer : Planning} (run : Planned given words words' sheet sheet' answer) where
+module _ {given : Given} {words words' sheet sheet' : List ℕ} {answer : Result Plan Refusal} (run : Planned given words words' sheet sheet' answer) where
   abbrev trip : Trip
   trip = trip_from given
 
@@ -353,18 +352,18 @@ module _ {given : Given} {words words' sheet sheet' : List ℕ} {answer : Planni
 -- higher, and each car park of A is one." Document 02, P5: "where A has a split so has B, with parts no longer than A's." P7: "week limit is one
 -- of the limits, week figure one of the starting figures, and B's weekly rest is no longer than A's." "Whenever A plans,"
 module _ {a b : Given} (accepted-a : AcceptedRun a) (accepted-b : AcceptedRun b) (easier : EasierRun b a)
-    {wordsA wordsA' sheetA sheetA' : List ℕ} {answerA : Planning} (run-a : Planned a wordsA wordsA' sheetA sheetA' answerA) (plans-a : Plans answerA) where
+    {wordsA wordsA' sheetA sheetA' : List ℕ} {answerA : Result Plan Refusal} (run-a : Planned a wordsA wordsA' sheetA sheetA' answerA) (plans-a : Plans answerA) where
   under_b : Afresh b sheetA' answerA
   under_b = afresh accepted-a accepted-b easier run-a plans-a
 
   -- "A's moves timed afresh under B are legal and arrive no later than A."
-  pub timed_afresh : {out out' : List ℕ} {answer : Timing} → TimedAfresh b sheetA' out out' answer →
+  pub timed_afresh : {out out' : List ℕ} {answer : Result Timed Refusal} → TimedAfresh b sheetA' out out' answer →
       ((told_timing answer).number ≡ 0) × ((told_timing answer).place ≡ moves_on sheetA') × ((told_timing answer).arrival ≤ (told_plan answerA).arrival)
   timed_afresh timed =
       let told = under_b.told timed in
       (ap (λ (r : Reply). r.number) told, ap (λ (r : Reply). r.place) told, omega (arith, ap (λ (r : Reply). r.arrival) told, under_b.no_later))
 
-  module _ {wordsB wordsB' sheetB sheetB' : List ℕ} {answerB : Planning} (run-b : Planned b wordsB wordsB' sheetB sheetB' answerB) where
+  module _ {wordsB wordsB' sheetB sheetB' : List ℕ} {answerB : Result Plan Refusal} (run-b : Planned b wordsB wordsB' sheetB sheetB' answerB) where
     -- "B then never says 'no road',"
     pub easier_never_no_road : ¬ SaysNoRoad answerB
     easier_never_no_road says_no_road = (no_road_said accepted-b run-b (λ full. omega (arith, full))).0 says_no_road _ _ under_b.journey
@@ -378,18 +377,18 @@ module _ {a b : Given} (accepted-a : AcceptedRun a) (accepted-b : AcceptedRun b)
     easier_plans not_full = plans_said accepted-b run-b not_full easier_never_no_road
 
     -- "and arrives no later than those moves timed afresh."
-    pub easier_no_later : Plans answerB → {out out' : List ℕ} {answer : Timing} → TimedAfresh b sheetA' out out' answer →
+    pub easier_no_later : Plans answerB → {out out' : List ℕ} {answer : Result Timed Refusal} → TimedAfresh b sheetA' out out' answer →
         (told_plan answerB).arrival ≤ (told_timing answer).arrival
     easier_no_later plans-b timed =
         omega (arith, ap (λ (r : Reply). r.arrival) (under_b.told timed), none_earlier (wrote accepted-b run-b plans-b) under_b.journey)
 
-not_full_told : {given : Given} {words words' sheet sheet' : List ℕ} {answer : Planning} → Planned given words words' sheet sheet' answer → ¬ SaysFull answer →
+not_full_told : {given : Given} {words words' sheet sheet' : List ℕ} {answer : Result Plan Refusal} → Planned given words words' sheet sheet' answer → ¬ SaysFull answer →
     ¬ ((plan_reply given (labels_that_fit (length words)) (length sheet)).number ≡ 12)
 not_full_told run not_full e = not_full (ap (λ (r : Reply). r.number) run.reply ∙ e)
 
 -- "Also, for any two planning runs that differ only in label space, where neither says 'full', their answers are equal and so is every byte of
 -- their sheets."
-pub any_label_space : {given : Given} {words₁ words₁' words₂ words₂' sheet sheet₁' sheet₂' : List ℕ} {answer₁ answer₂ : Planning} →
+pub any_label_space : {given : Given} {words₁ words₁' words₂ words₂' sheet sheet₁' sheet₂' : List ℕ} {answer₁ answer₂ : Result Plan Refusal} →
     Planned given words₁ words₁' sheet sheet₁' answer₁ → Planned given words₂ words₂' sheet sheet₂' answer₂ → ¬ SaysFull answer₁ → ¬ SaysFull answer₂ →
     (told_plan answer₁ ≡ told_plan answer₂) × (sheet₁' ≡ sheet₂')
 any_label_space {given} {sheet = sheet} run₁ run₂ not-full₁ not-full₂ =
@@ -399,7 +398,7 @@ any_label_space {given} {sheet = sheet} run₁ run₂ not-full₁ not-full₂ =
 
 -- PREVIEW OF A CLOSURE. Document 02, P6.
 
-module _ {given : Given} {road : ℕ} {words words' sheet sheet' : List ℕ} {answer : Planning} (run : Previewed given road words words' sheet sheet' answer) where
+module _ {given : Given} {road : ℕ} {words words' sheet sheet' : List ℕ} {answer : Result Plan Refusal} (run : Previewed given road words words' sheet sheet' answer) where
   -- the refusals in order: 1 to 11, "24 unknown road .. after 11 in the preview", then 12 to 14 of the map so struck
   pub preview_replies : RepliesBy (closure_tests given road ++ search_tests (trip_from (struck_given given road)) (labels_that_fit (length words)) (length sheet)) (told_plan answer)
   preview_replies = replies_by (closure_tests given road ++ search_tests (trip_from (struck_given given road)) (labels_that_fit (length words)) (length sheet)) _ refl tt (run.reply ∙ preview_listed given road words sheet)
@@ -414,12 +413,12 @@ module _ {given : Given} {road : ℕ} {words words' sheet sheet' : List ℕ} {an
 
   -- "The preview answers and writes exactly what planning would on a copy so struck": where the copy is struck, a run of the preview is a run of
   -- planning on it, so demands 1 to 3 hold of it as of planning there
-  module _ {map' : List ℕ} {check : Check} (striking : Striking given.map road map' check) where
+  module _ {map' : List ℕ} {check : Result (Unit {0}) Refusal} (striking : Striking given.map road map' check) where
     pub preview_is_planning : (told_check check).number ≡ 0 → Planned (on_map map' given) words words' sheet sheet' answer
     preview_is_planning done = as_planned striking done run
 
     -- so every run of planning there with as much label space has the same reply and every byte of the sheet
-    pub preview_as_planning : (told_check check).number ≡ 0 → {words₂ words₂' sheet₂' : List ℕ} {planning : Planning} → length words₂ ≡ length words
+    pub preview_as_planning : (told_check check).number ≡ 0 → {words₂ words₂' sheet₂' : List ℕ} {planning : Result Plan Refusal} → length words₂ ≡ length words
         → Planned (on_map map' given) words₂ words₂' sheet sheet₂' planning → (told_plan answer ≡ told_plan planning) × (sheet' ≡ sheet₂')
     preview_as_planning done room planned =
         let here = preview_is_planning done in (
@@ -432,7 +431,7 @@ module _ {given : Given} {road : ℕ} {words words' sheet sheet' : List ℕ} {an
     preview_refused refused = as_refused striking refused run
 
   -- beside planning on the lent map, with any label space and sheet: a closure makes no plan earlier, and opens no road
-  module _ {words₁ words₁' sheet₁ sheet₁' : List ℕ} {planning : Planning} (lent : Planned given words₁ words₁' sheet₁ sheet₁' planning) where
+  module _ {words₁ words₁' sheet₁ sheet₁' : List ℕ} {planning : Result Plan Refusal} (lent : Planned given words₁ words₁' sheet₁ sheet₁' planning) where
     pub preview_no_earlier : Plans planning → Plans answer → (told_plan planning).arrival ≤ (told_plan answer).arrival
     preview_no_earlier planned previewed = no_earlier run previewed lent planned
 

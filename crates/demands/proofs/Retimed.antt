@@ -8,8 +8,10 @@ use native.Mathlib.Omega.{arith}
 use borrow.Author.Tests.{not-false}
 use lib.Dec.{eqb}
 use lib.ListN.{length, take, drop}
+use Rattle.std.specs.Prelude.{Result}
+use Rattle.replies.specs.declared.Refusal.{Refusal}
+use Rattle.replies.specs.declared.Timed.{Timed}
 use Rattle.replies.specs.declared.Reply.{Reply}
-use Rattle.replies.specs.declared.Timing.{Timing}
 use Rattle.replies.specs.Told.{succeeded, told_timing}
 use Rattle.mapcheck.proofs.Counts.{placed_none}
 use Rattle.states.specs.declared.State.{State}
@@ -65,7 +67,7 @@ pub ends_at : (given : Given) (t : State) (rows : List Row) → stray (order_fro
 unfolding trip_of at_target
 ends_at given t rows straight = not-false (eqb t.junction (order_from given).target) (placed_none t.junction straight)
 
-module _ {given : Given} {sheet out out' : List ℕ} {answer : Timing} (retimed : Retimed given sheet out out' answer) (done : (told_timing answer).number ≡ 0) where
+module _ {given : Given} {sheet out out' : List ℕ} {answer : Result Timed Refusal} (retimed : Retimed given sheet out out' answer) (done : (told_timing answer).number ≡ 0) where
   abbrev trip : Trip
   trip = trip_from given
 

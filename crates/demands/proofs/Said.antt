@@ -9,9 +9,11 @@ use native.Mathlib.Omega.{arith}
 use borrow.Author.Tests.{ltb-true, ltb-false}
 use lib.Dec.{eqb, ltb}
 use lib.ListN.{length}
+use Rattle.std.specs.Prelude.{Result}
+use Rattle.replies.specs.declared.Refusal.{Refusal}
+use Rattle.replies.specs.declared.Plan.{Plan}
 use Rattle.booleans.proofs.Tests.{cases}
 use Rattle.replies.specs.declared.Reply.{Reply}
-use Rattle.replies.specs.declared.Planning.{Planning}
 use Rattle.replies.specs.First.{Test, NoneFits}
 use Rattle.replies.specs.Told.{refused_at, told_plan}
 use Rattle.replies.proofs.First.{none_told, none_before, none_behind}
@@ -45,7 +47,7 @@ run_accepted {given} all =
     record { mapped = none_before (map_tests given.map) orders all; ordered = none_behind (map_tests given.map) orders all }
 
 -- a reply that follows a search says that the map and the order are accepted
-pub accepted_by : {given : Given} {words words' sheet sheet' : List ℕ} {answer : Planning} → Planned given words words' sheet sheet' answer →
+pub accepted_by : {given : Given} {words words' sheet sheet' : List ℕ} {answer : Result Plan Refusal} → Planned given words words' sheet sheet' answer →
     early (told_plan answer).number ≡ false → AcceptedRun given
 unfolding memb plan_reply
 accepted_by {given} {words} {words'} {sheet} run late =
@@ -53,7 +55,7 @@ accepted_by {given} {words} {words'} {sheet} run late =
     let late_tests_lem : List Test = search_tests trip (labels_that_fit (length words)) (length sheet) in
     run_accepted (none_told early (run_tests given) late_tests_lem (planned trip) tt (rw run.reply at late))
 
-module _ {given : Given} {words words' sheet sheet' : List ℕ} {answer : Planning}
+module _ {given : Given} {words words' sheet sheet' : List ℕ} {answer : Result Plan Refusal}
     (accepted : AcceptedRun given) (run : Planned given words words' sheet sheet' answer) where
   abbrev trip : Trip
   trip = trip_from given

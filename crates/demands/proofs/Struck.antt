@@ -5,8 +5,9 @@ use mathlib.Core.List.{List, [], ◌∷◌}
 use Prim.Native.Nat.{ℕ, ◌≤◌}
 use native.Mathlib.Omega.{arith}
 use lib.ListN.{length, get_or}
-use Rattle.replies.specs.declared.Check.{Check}
-use Rattle.replies.specs.declared.Planning.{Planning}
+use Rattle.std.specs.Prelude.{Result, Ok, Err}
+use Rattle.replies.specs.declared.Refusal.{Refusal}
+use Rattle.replies.specs.declared.Plan.{Plan}
 use Rattle.replies.specs.declared.Reply.{Reply}
 use Rattle.replies.specs.First.{◌at◌, first_of, NoneFits}
 use Rattle.replies.specs.Told.{succeeded, told_check, told_plan}
@@ -36,7 +37,7 @@ use Rattle.demands.proofs.Chained.{apart}
 use Rattle.demands.proofs.Said.{run_accepted, no_road_said}
 use Rattle.demands.proofs.Written.{Wrote, wrote, holds_journey, none_earlier}
 
-module _ {map map' : List ℕ} {road : ℕ} {answer : Check} (run : Striking map road map' answer) (done : (told_check answer).number ≡ 0) where
+module _ {map map' : List ℕ} {road : ℕ} {answer : Result (Unit {0}) Refusal} (run : Striking map road map' answer) (done : (told_check answer).number ≡ 0) where
   number_0 : (striking_reply map road).number ≡ 0
   number_0 = sym (ap (λ (r : Reply). r.number) run.reply) ∙ done
 
@@ -63,9 +64,9 @@ module _ {map map' : List ℕ} {road : ℕ} {answer : Check} (run : Striking map
   pub told_struck : told_check answer ≡ succeeded 0 0
   told_struck = passed answer done
     where
-      passed : (a : Check) → (told_check a).number ≡ 0 → told_check a ≡ succeeded 0 0
-      passed Check.Passed e = refl
-      passed (Check.Refused why) e = absurd (omega (arith, refusal_number why, e))
+      passed : (a : Result (Unit {0}) Refusal) → (told_check a).number ≡ 0 → told_check a ≡ succeeded 0 0
+      passed (Ok done) e = refl
+      passed (Err why) e = absurd (omega (arith, refusal_number why, e))
 
   pub leads_back : road_to map' road ≡ road_from map road
   leads_back = rw is_struck (struck_to map whole road known.above known.below)
@@ -80,7 +81,7 @@ module _ {map map' : List ℕ} {road : ℕ} {answer : Check} (run : Striking map
   still_passes = rw is_struck (struck_passes map was_accepted road known.above known.below)
 
 -- A run of the preview is a run of planning on the map that striking left.
-pub as_planned : {given : Given} {map' : List ℕ} {road : ℕ} {words words' sheet sheet' : List ℕ} {answer : Check} {told : Planning}
+pub as_planned : {given : Given} {map' : List ℕ} {road : ℕ} {words words' sheet sheet' : List ℕ} {answer : Result (Unit {0}) Refusal} {told : Result Plan Refusal}
     → Striking given.map road map' answer → (told_check answer).number ≡ 0 → Previewed given road words words' sheet sheet' told
     → Planned (on_map map' given) words words' sheet sheet' told
 as_planned {given} {words = words} {words' = words'} {sheet = sheet} {sheet' = sheet'} {told = told} run done previewed =
@@ -88,7 +89,7 @@ as_planned {given} {words = words} {words' = words'} {sheet = sheet} {sheet' = s
     (preview_plans given _ words sheet (was_accepted run done) (road_inside run done) previewed)
 
 -- Where striking is refused the preview is refused likewise, an order's faults before the road's.
-pub as_refused : {given : Given} {map' : List ℕ} {road : ℕ} {words words' sheet sheet' : List ℕ} {answer : Check} {told : Planning}
+pub as_refused : {given : Given} {map' : List ℕ} {road : ℕ} {words words' sheet sheet' : List ℕ} {answer : Result (Unit {0}) Refusal} {told : Result Plan Refusal}
     → Striking given.map road map' answer → ¬ ((told_check answer).number ≡ 0) → Previewed given road words words' sheet sheet' told
     → told_plan told ≡ first_of (run_tests given) (told_check answer)
 unfolding preview_reply striking_reply first_of
@@ -106,7 +107,7 @@ as_refused {given} {map'} {road} {answer = answer} run refused previewed =
     by success false out told = absurd (refused (ap (λ (r : Reply). r.number) (rw out at told)))
 
 -- A preview that plans.
-module _ {given : Given} {road : ℕ} {words words' sheet sheet' : List ℕ} {answer : Planning} (run : Previewed given road words words' sheet sheet' answer) (plans : Plans answer) where
+module _ {given : Given} {road : ℕ} {words words' sheet sheet' : List ℕ} {answer : Result Plan Refusal} (run : Previewed given road words words' sheet sheet' answer) (plans : Plans answer) where
   none_closed : NoneFits (closure_tests given road)
   unfolding preview_reply
   none_closed = none_fitted (closure_tests given road) _ tt (sym (ap (λ (r : Reply). r.number) run.reply) ∙ plans)
@@ -136,7 +137,7 @@ module _ {given : Given} {road : ℕ} {words words' sheet sheet' : List ℕ} {an
       (found.0, found.1, found.2, omega (arith, covers_clock _ _ found.3, ap (λ (r : Reply). r.arrival) wrote_struck.told))
 
   -- planning on the lent map
-  module _ {words₁ words₁' sheet₁ sheet₁' : List ℕ} {lent : Planning} (lent-run : Planned given words₁ words₁' sheet₁ sheet₁' lent) where
+  module _ {words₁ words₁' sheet₁ sheet₁' : List ℕ} {lent : Result Plan Refusal} (lent-run : Planned given words₁ words₁' sheet₁ sheet₁' lent) where
     pub no_earlier : Plans lent → (told_plan lent).arrival ≤ (told_plan answer).arrival
     no_earlier lent-plans =
         omega (arith, none_earlier (wrote lent_accepted lent-run lent-plans) unstruck_journey.2, unstruck_journey.3)

@@ -6,8 +6,10 @@ use Prim.Native.Nat.{ℕ, ◌≤◌}
 use native.Mathlib.Omega.{arith}
 use lib.Dec.{T}
 use lib.ListN.{length, take, drop}
+use Rattle.std.specs.Prelude.{Result}
+use Rattle.replies.specs.declared.Refusal.{Refusal}
+use Rattle.replies.specs.declared.Plan.{Plan}
 use Rattle.replies.specs.declared.Reply.{Reply}
-use Rattle.replies.specs.declared.Planning.{Planning}
 use Rattle.replies.specs.Told.{succeeded, told_plan}
 use Rattle.states.specs.declared.State.{State}
 use Rattle.moves.specs.declared.Move.{Move}
@@ -35,7 +37,7 @@ use Rattle.demands.proofs.Said.{told}
 use Rattle.demands.proofs.Decoded.{heading_read, count_read, rows_read, rest_stays}
 
 -- the answer's state, the reply and the sheet of a run that plans
-pub record Wrote (given : Given) (words sheet sheet' : List ℕ) (answer : Planning) : Type 0 where
+pub record Wrote (given : Given) (words sheet sheet' : List ℕ) (answer : Result Plan Refusal) : Type 0 where
   pub sound : SoundTrip (trip_from given)
   pub state : State
   pub answered : answer_in (trip_from given) ≡ some state
@@ -44,7 +46,7 @@ pub record Wrote (given : Given) (words sheet sheet' : List ℕ) (answer : Plann
   pub told : told_plan answer ≡ succeeded (label_count (trip_from given)) state.clock.0
   pub written : sheet' ≡ sheet_after (heading_at (trip_from given) state) (plan_rows (trip_from given)) sheet
 
-pub wrote : {given : Given} {words words' sheet sheet' : List ℕ} {answer : Planning} → AcceptedRun given → Planned given words words' sheet sheet' answer → Plans answer →
+pub wrote : {given : Given} {words words' sheet sheet' : List ℕ} {answer : Result Plan Refusal} → AcceptedRun given → Planned given words words' sheet sheet' answer → Plans answer →
     Wrote given words sheet sheet' answer
 wrote {given} {words} {words'} {sheet} accepted run plans =
     let trip : Trip = trip_from given in
@@ -64,7 +66,7 @@ wrote {given} {words} {words'} {sheet} accepted run plans =
           ∙ ap (λ (o : Option State). planned_sheet trip o sheet) facts.answered;
     }
 
-module _ {given : Given} {words sheet sheet' : List ℕ} {answer : Planning} (w : Wrote given words sheet sheet' answer) where
+module _ {given : Given} {words sheet sheet' : List ℕ} {answer : Result Plan Refusal} (w : Wrote given words sheet sheet' answer) where
   abbrev trip : Trip
   trip = trip_from given
 

@@ -1,8 +1,9 @@
 -- Runs of planning: accepted, what they say, the journey that a sheet holds, and moves timed afresh.
 -- Document 01, "Plan sheet", "Two runs compared". Assumes nothing.
-use Rattle.std.specs.Prelude.{◌≡◌, List, map, ℕ, ◌≤◌, length, take}
-use Rattle.replies.specs.declared.Planning.{Planning}
-use Rattle.replies.specs.declared.Timing.{Timing}
+use Rattle.std.specs.Prelude.{◌≡◌, List, map, ℕ, ◌≤◌, length, take, Result}
+use Rattle.replies.specs.declared.Refusal.{Refusal}
+use Rattle.replies.specs.declared.Timed.{Timed}
+use Rattle.replies.specs.declared.Plan.{Plan}
 use Rattle.replies.specs.First.{NoneFits}
 use Rattle.replies.specs.Told.{told_plan}
 use Rattle.roadmap.specs.Format.{junction_count}
@@ -24,13 +25,13 @@ pub record AcceptedRun (given : Given) : Type 0 where
   pub ordered : NoneFits (order_tests (junction_count given.map) given.order)
 
 -- a run plans when its reply's number is 0
-abbrev pub Plans : Planning → Type 0
+abbrev pub Plans : Result Plan Refusal → Type 0
 Plans answer = (told_plan answer).number ≡ 0
 
-abbrev pub SaysFull : Planning → Type 0
+abbrev pub SaysFull : Result Plan Refusal → Type 0
 SaysFull answer = (told_plan answer).number ≡ 12
 
-abbrev pub SaysNoRoad : Planning → Type 0
+abbrev pub SaysNoRoad : Result Plan Refusal → Type 0
 SaysNoRoad answer = (told_plan answer).number ≡ 13
 
 -- the moves on a sheet: kind and number of each of its M records
@@ -53,6 +54,6 @@ abbrev pub header_and_records : List ℕ → List ℕ
 header_and_records sheet = take (sheet_needed (moves_on sheet)) sheet
 
 -- a sheet's moves are timed afresh by retiming its header and its M records, with this map and order, into any sheet at least as long
-pub record TimedAfresh (given : Given) (sheet out out' : List ℕ) (answer : Timing) : Type 0 where
+pub record TimedAfresh (given : Given) (sheet out out' : List ℕ) (answer : Result Timed Refusal) : Type 0 where
   pub long : length (header_and_records sheet) ≤ length out
   pub retimed : Retimed given (header_and_records sheet) out out' answer

@@ -6,38 +6,51 @@ use Prim.Native.Nat.{ℕ}
 use native.Mathlib.Omega.{arith}
 use lib.Dec.{T, T_not, eqb}
 use lib.ListN.{length}
+use Rattle.std.specs.Prelude.{Result, Ok, Err}
+use Rattle.replies.specs.declared.Plan.{Plan}
 use Rattle.replies.specs.declared.Refusal.{Refusal}
 use Rattle.replies.specs.declared.Reply.{Reply}
-use Rattle.replies.specs.declared.Planning.{Planning}
 use Rattle.replies.specs.Told.{told_refusal, told_plan}
 use Rattle.replies.specs.First.{NoneFits, Refuses}
 use Rattle.replies.proofs.First.{none_fits, refusal_number, told_passes}
+use Rattle.roadmap.specs.Format.{road_count}
+use Rattle.mapcheck.specs.MapCheck.{outside}
+use Rattle.moves.specs.declared.given.OpenRun.{OpenRun}
 use Rattle.moves.specs.Trip.{Trip}
+use Rattle.moves.specs.Bans.{closed_in, listed_in, AgreeOn}
+use Rattle.moves.specs.Opened.{OpenedSays}
 use Rattle.moves.specs.Given.{Given, trip_from}
 use Rattle.moves.specs.RunTests.{run_tests}
 use Rattle.theory.specs.Lists.{memb}
 use Rattle.journeys.specs.Planning.{before_search, search_tests, planned, search_reply, plan_reply, plan_sheet_when, plan_sheet}
 use Rattle.states.specs.LabelSpace.{labels_that_fit}
 use Rattle.journeys.proofs.Planning.{sheet_refused}
-use Rattle.search.specs.declared.Outcome.{Outcome}
+use Rattle.search.specs.declared.Unfound.{Unfound}
 use Rattle.search.specs.Turns.{OutcomeSays}
 use Rattle.planner.specs.Parts.{Concluded}
 use Rattle.planner.specs.Planned.{Planned}
 
 -- the trip and the labels that fit, told otherwise
-pub ends_with : {trip trip' : Trip} {fit fit' : ℕ} {ws : List ℕ} {outcome : Outcome} → trip ≡ trip' → fit ≡ fit' → OutcomeSays trip fit ws outcome → OutcomeSays trip' fit' ws outcome
+pub ends_with : {trip trip' : Trip} {fit fit' : ℕ} {ws : List ℕ} {outcome : Result ℕ Unfound} → trip ≡ trip' → fit ≡ fit' → OutcomeSays trip fit ws outcome → OutcomeSays trip' fit' ws outcome
 ends_with {trip} {fit' = fit'} {ws = ws} {outcome = outcome} same e says =
     subst (λ (t : Trip). OutcomeSays t fit' ws outcome) same (subst (λ (k : ℕ). OutcomeSays trip k ws outcome) e says)
 
-pub concluded_with : {trip : Trip} {fit fit' : ℕ} {before after : List ℕ} {answer : Planning} → fit ≡ fit' → Concluded trip fit before after answer → Concluded trip fit' before after answer
-concluded_with {trip} {before = before} {after = after} {answer = answer} e concluded = subst (λ (k : ℕ). Concluded trip k before after answer) e concluded
+-- An opened run: no road of it is banned.
+module _ (given : Given) (run : OpenRun) (opened : OpenedSays given (Ok run)) where
+  pub bans_agree : AgreeOn (road_count run.map.now) (closed_in run.closed.now) (listed_in run.bans.now)
+  unfolding memb
+  bans_agree r low high = rw (opened.3.1, opened.3.2)
+
+  -- which roads are known is told by its counts
+  pub road_known : (road : ℕ) → outside 1 run.about.sizes.roads road ≡ outside 1 (road_count given.map) road
+  road_known road = ap (λ (roads : ℕ). outside 1 roads road) opened.0.accepted.sized.roads
 
 module _ (given : Given) (words sheet : List ℕ) where
   abbrev fit : ℕ
   fit = labels_that_fit (length words)
 
   -- a refusal before the search: nothing has changed
-  pub run_refused : (why : Refusal) → Refuses (run_tests given) why → Planned given words words sheet sheet (Planning.Refused why)
+  pub run_refused : (why : Refusal) → Refuses (run_tests given) why → Planned given words words sheet sheet (Err why)
   unfolding plan_reply
   run_refused why refuses =
       let told : plan_reply given fit (length sheet) ≡ told_refusal why = refuses (search_tests (trip_from given) fit (length sheet)) (planned (trip_from given)) in
@@ -55,7 +68,7 @@ module _ (given : Given) (words sheet : List ℕ) where
       (told_passes (λ (k : ℕ). not (memb eqb k before_search)) (search_tests trip fit (length sheet)) (planned trip) tt tt)
 
   -- an opened run: what the search concludes
-  pub run_planned : {trip : Trip} → trip ≡ trip_from given → NoneFits (run_tests given) → {words' sheet' : List ℕ} {answer : Planning}
+  pub run_planned : {trip : Trip} → trip ≡ trip_from given → NoneFits (run_tests given) → {words' sheet' : List ℕ} {answer : Result Plan Refusal}
       → Concluded trip fit sheet sheet' answer → Planned given words words' sheet sheet' answer
   unfolding plan_reply search_reply plan_sheet
   run_planned same none {words'} {sheet'} {answer} concluded =

@@ -5,8 +5,10 @@ use mathlib.Core.Option.{none}
 use Prim.Native.Nat.{ℕ, ◌≤◌}
 use native.Mathlib.Omega.{arith}
 use lib.ListN.{length}
+use Rattle.std.specs.Prelude.{Result, Ok, Err}
+use Rattle.replies.specs.declared.Refusal.{Refusal}
+use Rattle.replies.specs.declared.Plan.{Plan}
 use Rattle.replies.specs.declared.Refusal.TheVariants.{Full, NoRoad}
-use Rattle.replies.specs.declared.Planning.{Planning}
 use Rattle.replies.specs.Told.{refused_at}
 use Rattle.states.specs.declared.State.{State}
 use Rattle.moves.specs.Trip.{Trip}
@@ -18,7 +20,7 @@ use Rattle.settling.specs.Settling.{Ended}
 use Rattle.readback.specs.Held.{Found}
 use Rattle.readback.proofs.Ending.{ended_found}
 use Rattle.search.specs.Underway.{parents_of}
-use Rattle.search.specs.declared.Outcome.{Outcome}
+use Rattle.search.specs.declared.Unfound.{Unfound}
 use Rattle.search.specs.Turns.{EndsFound, EndsWithout, OutcomeSays}
 use Rattle.search.specs.Turns as turns
 use Rattle.search.proofs.Columns.{states_length}
@@ -40,11 +42,11 @@ module _ (trip : Trip) (ws : List ℕ) (n : ℕ) where
 
 -- Each outcome.
 module _ {trip : Trip} {fit : ℕ} {ws : List ℕ} where
-  pub outcome_found : {n : ℕ} → OutcomeSays trip fit ws (Outcome.Found n) → EndsFound trip ws n × (n ≤ fit)
+  pub outcome_found : {n : ℕ} → OutcomeSays trip fit ws (Ok n) → EndsFound trip ws n × (n ≤ fit)
   outcome_found (turns.found ends room) = (ends, room)
 
   module _ (before : List ℕ) where
-    pub concluded_found : {n : ℕ} {after : List ℕ} {answer : Planning} → OutcomeSays trip fit ws (Outcome.Found n)
+    pub concluded_found : {n : ℕ} {after : List ℕ} {answer : Result Plan Refusal} → OutcomeSays trip fit ws (Ok n)
         → HandedBack trip before after answer → Concluded trip fit before after answer
     concluded_found {n} (turns.found ends room) handed =
         record {
@@ -52,9 +54,9 @@ module _ {trip : Trip} {fit : ℕ} {ws : List ℕ} where
           bytes = handed.bytes;
         }
 
-    pub concluded_exhausted : {n : ℕ} → OutcomeSays trip fit ws (Outcome.Exhausted n) → Concluded trip fit before before (Planning.Refused (NoRoad n))
+    pub concluded_exhausted : {n : ℕ} → OutcomeSays trip fit ws (Err (Unfound.Exhausted n)) → Concluded trip fit before before (Err (NoRoad n))
     concluded_exhausted {n} (turns.exhausted ends room) =
         record { reply = sym (exhausted_reply trip ws n ends fit (length before) room); bytes = refl }
 
-    pub concluded_full : OutcomeSays trip fit ws Outcome.Full → Concluded trip fit before before (Planning.Refused (Full fit))
+    pub concluded_full : OutcomeSays trip fit ws (Err Unfound.Full) → Concluded trip fit before before (Err (Full fit))
     concluded_full (turns.full above) = record { reply = sym (reply_full trip fit (length before) above); bytes = refl }

@@ -8,10 +8,11 @@ use native.Mathlib.Omega.{arith}
 use borrow.Author.Tests.{eqb-false, ne_eqb}
 use lib.Dec.{eqb}
 use lib.ListN.{length}
+use Rattle.std.specs.Prelude.{Result, Ok, Err}
+use Rattle.replies.specs.declared.Plan.{Plan}
 use Rattle.booleans.proofs.Tests.{cases}
 use Rattle.replies.specs.declared.Refusal.{Refusal}
 use Rattle.replies.specs.declared.Reply.{Reply}
-use Rattle.replies.specs.declared.Planning.{Planning}
 use Rattle.replies.specs.First.{Test, ◌at◌, first_of, NoneFits, Refuses}
 use Rattle.replies.specs.Told.{told_refusal}
 use Rattle.replies.proofs.First.{none_fits, none_at_all, passed_over, first_append, first_same, none_of_both, none_before, none_behind, stops_at, refusal_number}
@@ -25,7 +26,13 @@ use Rattle.striking.proofs.Passes.{struck_passes}
 use Rattle.driving.specs.declared.Order.{Order}
 use Rattle.driving.specs.Order.{order_tests}
 use Rattle.states.specs.LabelSpace.{labels_that_fit}
+use Rattle.theory.specs.Lists.{memb}
+use Rattle.moves.specs.declared.Run.{Run}
+use Rattle.moves.specs.declared.given.OpenRun.{OpenRun}
 use Rattle.moves.specs.Trip.{Trip, none_banned, trip_of}
+use Rattle.moves.specs.Bans.{listed_in}
+use Rattle.moves.specs.Runs.{Accepted, trip_in}
+use Rattle.moves.specs.Opened.{OpenedSays}
 use Rattle.moves.specs.Struck.{struck_in}
 use Rattle.moves.specs.Given.{Given, order_from, trip_from}
 use Rattle.moves.specs.RunTests.{run_tests}
@@ -61,12 +68,26 @@ module _ (given : Given) (road : ℕ) where
       ap (λ (o : Order). struck_in road (trip_of map none_banned o)) same
       ∙ sym (struck_trip map none_banned (has_whole map (accepted_sizes map accepted)) (order_from given) road known.above known.below)
 
+  -- so an opened run is accepted with that road struck, and its trip is that of the map so struck
+  module _ (run : OpenRun) (opened : OpenedSays given (Ok run)) (inside : outside 1 (road_count map) road ≡ false) where
+    abbrev closed : Run
+    closed = record { sizes = run.about.sizes; order = run.about.order; struck = road }
+
+    pub closed_accepted : Accepted run.map.now closed
+    closed_accepted =
+        let accepted = opened.0.accepted in
+        rw opened.3.0 (record { sized = accepted.sized; mapped = accepted.mapped; ordered = accepted.ordered; known = (within inside).below })
+
+    pub closed_trip : trip_in run.map.now (listed_in run.bans.now) closed ≡ trip_from (struck_given given road)
+    unfolding memb
+    closed_trip = rw (opened.3.0, opened.3.2) (struck_from opened.2 inside opened.1)
+
   module _ (words sheet : List ℕ) where
     abbrev fit : ℕ
     fit = labels_that_fit (length words)
 
     -- a refusal before the search: nothing has changed
-    unchanged : (why : Refusal) → preview_reply given road fit (length sheet) ≡ told_refusal why → Previewed given road words words sheet sheet (Planning.Refused why)
+    unchanged : (why : Refusal) → preview_reply given road fit (length sheet) ≡ told_refusal why → Previewed given road words words sheet sheet (Err why)
     unfolding preview_sheet
     unchanged why told =
         record {
@@ -75,12 +96,12 @@ module _ (given : Given) (road : ℕ) where
           kept = λ listed. refl;
         }
 
-    pub preview_refused : (why : Refusal) → Refuses (run_tests given) why → Previewed given road words words sheet sheet (Planning.Refused why)
+    pub preview_refused : (why : Refusal) → Refuses (run_tests given) why → Previewed given road words words sheet sheet (Err why)
     unfolding preview_reply
     preview_refused why refuses = unchanged why (refuses ((24 at unknown_road map road) ∷ []) (plan_reply (struck_given given road) fit (length sheet)))
 
     pub preview_unknown : NoneFits (run_tests given) → outside 1 (road_count map) road ≡ true →
-        Previewed given road words words sheet sheet (Planning.Refused (Refusal.UnknownRoad road))
+        Previewed given road words words sheet sheet (Err (Refusal.UnknownRoad road))
     unfolding preview_reply
     preview_unknown none out = unchanged (Refusal.UnknownRoad road) (none_fits (run_tests given) _ _ none ∙ stops_at _ _ _ (rw out))
 
@@ -123,7 +144,7 @@ module _ (given : Given) (road : ℕ) where
           (cases (eqb (plan_reply (struck_given given road) fit (length sheet)).number 0)))
 
       -- so a run of planning on the map so struck is a run of the preview, and the other way round
-      module _ {words' sheet' : List ℕ} {answer : Planning} where
+      module _ {words' sheet' : List ℕ} {answer : Result Plan Refusal} where
         pub preview_planned : Planned (struck_given given road) words words' sheet sheet' answer → Previewed given road words words' sheet sheet' answer
         preview_planned run = record { reply = run.reply ∙ sym preview_told; bytes = run.bytes ∙ sym preview_written; kept = run.kept }
 

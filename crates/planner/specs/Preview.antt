@@ -1,7 +1,8 @@
 -- The preview of a closure: what planning would answer and write on a copy of the map with a road struck. Document 02, P6.
 -- Assumes nothing.
-use Rattle.std.specs.Prelude.{◌≡◌, List, [], ◌∷◌, ◌++◌, ℕ, T, eqb, length}
-use Rattle.replies.specs.declared.Planning.{Planning}
+use Rattle.std.specs.Prelude.{◌≡◌, List, [], ◌∷◌, ◌++◌, ℕ, T, eqb, length, Result}
+use Rattle.replies.specs.declared.Refusal.{Refusal}
+use Rattle.replies.specs.declared.Plan.{Plan}
 use Rattle.replies.specs.declared.Reply.{Reply}
 use Rattle.replies.specs.First.{Test, ◌at◌, first_of}
 use Rattle.replies.specs.Told.{told_plan}
@@ -31,7 +32,7 @@ preview_sheet given road fit before =
     pick (eqb (preview_reply given road fit (length before)).number 0) (plan_sheet (struck_given given road) fit before) before
 
 -- a run of the preview: what it is given, the road, the label space before and after, the sheet before and after, and the answer
-pub record Previewed (given : Given) (road : ℕ) (words words' sheet sheet' : List ℕ) (answer : Planning) : Type 0 where
+pub record Previewed (given : Given) (road : ℕ) (words words' sheet sheet' : List ℕ) (answer : Result Plan Refusal) : Type 0 where
   pub reply : told_plan answer ≡ preview_reply given road (labels_that_fit (length words)) (length sheet)
   pub bytes : sheet' ≡ preview_sheet given road (labels_that_fit (length words)) sheet
   -- a refusal that is given before the search leaves the label space

@@ -9,7 +9,8 @@ use lib.Seq.{get_or_at}
 use Rattle.states.specs.declared.State.{State}
 use Rattle.moves.specs.declared.Move.{Move}
 use Rattle.moves.specs.Trip.{Trip}
-use Rattle.moves.specs.Runs.{SoundTrip}
+use Rattle.moves.specs.Runs.{SoundTrip, RangeIn}
+use Rattle.moves.specs.OpenRuns.{listed_trip}
 use Rattle.sheets.specs.declared.Row.{Row}
 use Rattle.sheets.specs.declared.Heading.{Heading}
 use Rattle.sheets.specs.Sheet.{sheet_needed, sheet_after, with_heading, with_row}
@@ -19,11 +20,14 @@ use Rattle.labels.specs.LabelWords.{parent_of, label_at}
 use Rattle.journeys.specs.Labels.{label, parent_in}
 use Rattle.journeys.specs.Plan.{move_to, plan_rows, move_count}
 use Rattle.journeys.proofs.Rows.{row_at, plan_rows_length}
+use Rattle.readback.specs.declared.FoundLabels.{FoundLabels}
+use Rattle.readback.specs.Moving.{SomeMove}
 use Rattle.readback.specs.Held.{Found}
 use Rattle.readback.specs.Rows.{RowFor}
 use Rattle.readback.proofs.Back.{rows_back, back_first, back_next, plan_back}
 use Rattle.readback.proofs.Counted.{parent_word, held_descends}
-use Rattle.readback.proofs.Read.{label_held, parent_state}
+use Rattle.readback.proofs.Read.{label_held, label_range, parent_state, parent_leads}
+use Rattle.readback.proofs.Listed.{listed_sound, found_in}
 
 -- with the header after its records it is the whole sheet
 pub sheet_written : (trip : Trip) (h : Heading) (s : List ℕ) → sheet_needed (move_count trip) ≤ length s
@@ -40,7 +44,31 @@ pub record Writing (trip : Trip) (n : ℕ) (before sheet : List ℕ) (k left : �
   pub long : length sheet ≡ length before
   pub is : sheet ≡ backward (plan_rows trip) left before
 
-module _ (trip : Trip) (sound : SoundTrip trip) (words : List ℕ) (n : ℕ) (found : Found trip words n) (before : List ℕ) where
+module _ (labels : FoundLabels) (before : List ℕ) where
+  abbrev trip : Trip
+  trip = listed_trip labels.run.now
+
+  abbrev words : List ℕ
+  words = labels.words.now
+
+  abbrev n : ℕ
+  n = labels.count
+
+  sound : SoundTrip trip
+  sound = listed_sound labels.run.now
+
+  found : Found trip words n
+  found = found_in labels
+
+  -- the leg to label k
+  pub leg_range : (k : ℕ) → 1 < k → k ≤ n → RangeIn trip (label_at words (parent_of words k))
+  leg_range k more high =
+      let parent = (held_descends trip words n labels.held).parents k more high in
+      label_range trip sound words n found (parent_of words k) parent.low (omega (arith, parent.below))
+
+  pub leg_move : (k : ℕ) → 1 < k → k ≤ n → SomeMove trip (label_at words (parent_of words k)) (label_at words k)
+  leg_move = parent_leads trip sound words n found
+
   pub write_first : (m : ℕ) → m ≡ move_count trip → Writing trip n before before n m
   write_first m size =
       let whole : plan_rows trip ≡ rows_back trip (n - 1) = plan_back trip sound found.answered (n - 1) (omega (arith, found.held.count, found.held.low)) in

@@ -1,5 +1,5 @@
 -- What each kind of move leads to, and which is the parent's move. Assumes nothing.
-use mathlib.Core.Path.{◌≡◌, ◌∙◌, sym, ap}
+use mathlib.Core.Path.{◌≡◌, ◌∙◌, sym, ap, subst}
 use mathlib.Core.Bool.{Bool, true, false, ◌&&◌}
 use mathlib.Core.List.{List}
 use mathlib.Core.Logic.{◌⊎◌, inl, inr, ⊎_elim}
@@ -98,11 +98,6 @@ module _ (trip : Trip) (p t : State) where
       let may = (and_true {a = eqb p.junction p.junction} (rw (ne_eqb kind 1 (λ e. omega arith)) at by.offered)).1 in
       rw (may, by.leads)
 
-  -- the kind sought is at most the last
-  pub seek_high : (kind : ℕ) → Seeking kind → SomePause trip p t → kind ≤ last_pause
-  seek_high kind seeking (k, low, by) =
-      omega (arith, seeking.ahead k low by, (pause_range trip p k (and_true {a = may_pause trip p k} (takes_pause k low by)).0).1)
-
   -- a kind that does not lead there is not the one sought
   pub seek_next : (kind : ℕ) → Seeking kind → pauses_to trip p t kind ≡ false → Seeking (kind + 1)
   seek_next kind seeking fails = record { low = omega (arith, seeking.low); ahead = past }
@@ -122,6 +117,16 @@ module _ (trip : Trip) (p t : State) where
         lowest = seeking.ahead;
       }
 
+  -- where no kind before the last leads there, the last does
+  pub seek_last : (kind : ℕ) → Seeking kind → last_pause ≤ kind → SomePause trip p t → PauseTo trip p t last_pause
+  seek_last kind seeking high (k, low, by) =
+      let range = pause_range trip p k (and_true {a = may_pause trip p k} (takes_pause k low by)).0 in
+      let same : k ≡ last_pause = omega (arith, range.1, seeking.ahead k low by) in
+      record {
+        takes = subst (λ (j : ℕ). Takes trip p t (move j p.junction)) same by;
+        lowest = λ j low by. omega (arith, seeking.ahead j low by);
+      }
+
 -- a road of the junction
 pub record OwnRoad (map : List ℕ) (p : State) (r : ℕ) : Type 0 where
   pub low : 1 ≤ r
@@ -134,9 +139,9 @@ module _ {map : List ℕ} {banned : ℕ → Bool} {run : Run} {trip : Trip} (tie
   unfolding after
   drive_leads r s is = rw (tied.order, is)
 
-  pub pause_leads : (kind : ℕ) (s : State) → first_pause ≤ kind → s ≡ paused kind run.order.rules p → moves_to trip p t (move kind p.junction) ≡ (legal run.order s && same_state s t)
+  pub pause_leads : (kind : ℕ) (s : State) → may_pause trip p kind ≡ true → s ≡ paused kind run.order.rules p → pauses_to trip p t kind ≡ (legal run.order s && same_state s t)
   unfolding after
-  pause_leads kind s low is = rw (ne_eqb kind 1 (λ e. omega arith), tied.order, is)
+  pause_leads kind s may is = rw (may, ne_eqb kind 1 (λ e. omega (arith, (pause_range trip p kind may).0)), tied.order, is)
 
   -- a road that leaves the junction is offered, and only such
   pub road_offered : (r : ℕ) → 1 ≤ r → r ≤ road_count map → road_from map r ≡ p.junction → offers trip p (move 1 r) ≡ true

@@ -2,6 +2,7 @@
 -- Assumes nothing.
 pub mod Leading
 pub mod Walk
+pub mod Listed
 pub mod Back
 pub mod Counted
 pub mod Read

@@ -1,11 +1,10 @@
 -- What each call of the library owes: the reply, and every lent byte and word afterwards. Where the lent reply has no room for three
 -- numbers, nothing at all is written. Assumes nothing.
-use Rattle.std.specs.Prelude.{◌≡◌, List, ℕ, ◌≤◌, ◌<◌, eqb, length}
-use Rattle.replies.specs.declared.Check.{Check}
-use Rattle.replies.specs.declared.Planning.{Planning}
-use Rattle.replies.specs.declared.Replaying.{Replaying}
+use Rattle.std.specs.Prelude.{Result, ◌≡◌, List, ℕ, ◌≤◌, ◌<◌, eqb, length}
+use Rattle.replies.specs.declared.Plan.{Plan}
+use Rattle.replies.specs.declared.Refusal.{Refusal}
 use Rattle.replies.specs.declared.Reply.{Reply}
-use Rattle.replies.specs.declared.Timing.{Timing}
+use Rattle.replies.specs.declared.Timed.{Timed}
 use Rattle.replies.specs.First.{first_of}
 use Rattle.replies.specs.Told.{succeeded, told_check, told_plan, told_replaying, told_timing}
 use Rattle.booleans.specs.Pick.{pick}
@@ -43,9 +42,9 @@ abbrev pub AuditCall : Given → List ℕ → List ℕ → List ℕ → Type 0
 AuditCall given sheet reply reply' = JudgingCall (audit_reply given sheet) reply reply'
 
 -- a call that plans: its operation owes this of its answer
-pub record PlanningCall (Owes : Planning → Type 0) (words words' sheet sheet' reply reply' : List ℕ) : Type 0 where
+pub record PlanningCall (Owes : Result Plan Refusal → Type 0) (words words' sheet sheet' reply reply' : List ℕ) : Type 0 where
   pub short : length reply < 3 → (words' ≡ words) × (sheet' ≡ sheet) × (reply' ≡ reply)
-  pub told : 3 ≤ length reply → (answer : Planning) × Owes answer × (reply' ≡ reply_put reply (told_plan answer))
+  pub told : 3 ≤ length reply → (answer : Result Plan Refusal) × Owes answer × (reply' ≡ reply_put reply (told_plan answer))
 
 abbrev pub PlanCall : Given → List ℕ → List ℕ → List ℕ → List ℕ → List ℕ → List ℕ → Type 0
 PlanCall given words words' sheet sheet' reply reply' =
@@ -58,7 +57,7 @@ PreviewCall given road words words' sheet sheet' reply reply' =
 pub record RetimeCall (given : Given) (sheet out out' reply reply' : List ℕ) : Type 0 where
   pub short : length reply < 3 → (out' ≡ out) × (reply' ≡ reply)
   pub told : 3 ≤ length reply
-      → (answer : Timing) × Retimed given sheet out out' answer × (reply' ≡ reply_put reply (told_timing answer))
+      → (answer : Result Timed Refusal) × Retimed given sheet out out' answer × (reply' ≡ reply_put reply (told_timing answer))
 
 -- the name's place in the map and its length, 0 and 0 when refused
 abbrev pub name_put : List ℕ → ℕ → List ℕ → List ℕ
@@ -75,9 +74,9 @@ pub record NameCall (map : List ℕ) (junction : ℕ) (reply reply' part part' :
       → (reply' ≡ reply_put reply (name_reply map junction)) × (part' ≡ name_put map junction part)
 
 -- a call that changes a map: its operation owes this of its answer
-pub record EditingCall (Owes : Check → Type 0) (map map' reply reply' : List ℕ) : Type 0 where
+pub record EditingCall (Owes : Result (Unit {0}) Refusal → Type 0) (map map' reply reply' : List ℕ) : Type 0 where
   pub short : length reply < 3 → (map' ≡ map) × (reply' ≡ reply)
-  pub told : 3 ≤ length reply → (answer : Check) × Owes answer × (reply' ≡ reply_put reply (told_check answer))
+  pub told : 3 ≤ length reply → (answer : Result (Unit {0}) Refusal) × Owes answer × (reply' ≡ reply_put reply (told_check answer))
 
 abbrev pub ChainsCall : List ℕ → List ℕ → List ℕ → List ℕ → Type 0
 ChainsCall map map' reply reply' = EditingCall (ChainMaking map map') map map' reply reply'
@@ -95,5 +94,5 @@ pub record ReplayCall (trace rules figures figures' reply reply' : List ℕ) : T
   pub short_rules : length rules < 8 → (figures' ≡ figures) × (reply' ≡ reply)
   pub short_figures : length figures < 4 → (figures' ≡ figures) × (reply' ≡ reply)
   pub told : 3 ≤ length reply → 8 ≤ length rules → 4 ≤ length figures
-      → (answer : Replaying) × (after : Figures) × Replayed trace (rules_in rules) (figures_in figures) after answer
+      → (answer : Result ℕ Refusal) × (after : Figures) × Replayed trace (rules_in rules) (figures_in figures) after answer
       × (figures' ≡ figures_left (told_replaying answer) figures after) × (reply' ≡ reply_put reply (told_replaying answer))

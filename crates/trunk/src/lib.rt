@@ -6,12 +6,12 @@
 ghost use Rattle.std.specs.Prelude.{◌≡◌, ◌≤◌, length};
 ghost use Rattle.replies.specs.Told.{told_name};
 ghost use Rattle.mapedit.specs.Name.{name_reply};
-ghost use Rattle.trunk.specs.Written.{reply_put, rules_in, figures_in, mark_word, figures_put};
+ghost use Rattle.trunk.specs.Written.{reply_put, rules_in, figures_in, figures_put};
 ghost use Rattle.moves.specs.Given.{given_of};
-ghost use Rattle.trunk.specs.Calls.{MapCheckCall, OrderCheckCall, PlanCall, PreviewCall, RetimeCall, AuditCall, NameCall, ChainsCall, StrikeCall, ReplayCall, library_version, name_put, figures_left};
+ghost use Rattle.trunk.specs.Calls.{MapCheckCall, OrderCheckCall, PlanCall, PreviewCall, RetimeCall, AuditCall, NameCall, ChainsCall, StrikeCall, ReplayCall, library_version, name_put};
 
 use driving::{Figures, Rules};
-use replies::{NameReply, Reply};
+use replies::{Refusal, Reply};
 use seconds::{Clock, Wheel};
 
 // What a reply, and the place of a name, take of a lent run.
@@ -38,9 +38,9 @@ fn put_reply(lent: &mut [u64], reply: Reply)
     requires { 3 ≤ length lent.old }
     ensures { lent.new ≡ reply_put lent.old reply }
 {
-    lent[0] = reply.number as u64;
+    lent[0] = u64::from(reply.number);
     lent[1] = reply.place as u64;
-    lent[2] = reply.arrival as u64;
+    lent[2] = u64::from(reply.arrival);
 }
 
 // Map check.
@@ -51,8 +51,7 @@ pub extern "C" fn trunk_check_map(map: &[u8], reply: &mut [u64])
     if reply.len() < REPLY_NUMBERS {
         return;
     }
-    let told = mapcheck::check_map(map).reply();
-    put_reply(reply, told);
+    put_reply(reply, Reply::from(mapcheck::check_map(map)));
 }
 
 // Order check.
@@ -63,8 +62,7 @@ pub extern "C" fn trunk_check_order(order: &[u8], junctions: u32, reply: &mut [u
     if reply.len() < REPLY_NUMBERS {
         return;
     }
-    let told = driving::check_order(order, junctions).reply();
-    put_reply(reply, told);
+    put_reply(reply, Reply::from(driving::check_order(order, junctions)));
 }
 
 // Planning.
@@ -81,8 +79,7 @@ pub extern "C" fn trunk_plan(
     if reply.len() < REPLY_NUMBERS {
         return;
     }
-    let told = planner::plan(map, order, words, sheet).reply();
-    put_reply(reply, told);
+    put_reply(reply, Reply::from(planner::plan(map, order, words, sheet)));
 }
 
 // The preview of a closure.
@@ -100,8 +97,10 @@ pub extern "C" fn trunk_preview(
     if reply.len() < REPLY_NUMBERS {
         return;
     }
-    let told = planner::preview(map, order, road, words, sheet).reply();
-    put_reply(reply, told);
+    put_reply(
+        reply,
+        Reply::from(planner::preview(map, order, road, words, sheet)),
+    );
 }
 
 // Retiming.
@@ -118,8 +117,7 @@ pub extern "C" fn trunk_retime(
     if reply.len() < REPLY_NUMBERS {
         return;
     }
-    let told = retiming::retime(map, order, sheet, out).reply();
-    put_reply(reply, told);
+    put_reply(reply, Reply::from(retiming::retime(map, order, sheet, out)));
 }
 
 // Audit.
@@ -130,26 +128,21 @@ pub extern "C" fn trunk_audit(map: &[u8], order: &[u8], sheet: &[u8], reply: &mu
     if reply.len() < REPLY_NUMBERS {
         return;
     }
-    let told = retiming::audit(map, order, sheet).reply();
-    put_reply(reply, told);
+    put_reply(reply, Reply::from(retiming::audit(map, order, sheet)));
 }
 
 // Where in the map the name stands that the reply tells, and how long it is.
-fn put_name(map: &[u8], junction: u32, told: NameReply, part: &mut [u64])
+fn put_name(map: &[u8], junction: u32, told: Result<usize, Refusal>, part: &mut [u64])
     requires told_value { told_name told ≡ name_reply map.now junction }
     requires in_bounds { 2 ≤ length part.old }
     ensures { part.new ≡ name_put map.now junction part.old }
 {
-    match told {
-        NameReply::Named(length) => {
-            part[0] = mapedit::name_place(map, junction) as u64;
-            part[1] = length as u64;
-        }
-        NameReply::Refused(_why) => {
-            part[0] = 0;
-            part[1] = 0;
-        }
-    }
+    let (from, letters) = match told {
+        Ok(length) => (mapedit::name_place(map, junction), length),
+        Err(_) => (0, 0),
+    };
+    part[0] = from as u64;
+    part[1] = letters as u64;
 }
 
 // Name. An exported function cannot return a part of the map, so it tells where that part is.
@@ -157,15 +150,11 @@ fn put_name(map: &[u8], junction: u32, told: NameReply, part: &mut [u64])
 pub extern "C" fn trunk_name(map: &[u8], junction: u32, reply: &mut [u64], part: &mut [u64])
     ensures { NameCall map.now junction reply.old reply.new part.old part.new }
 {
-    if reply.len() < REPLY_NUMBERS {
-        return;
-    }
-    if part.len() < PART_NUMBERS {
+    if reply.len() < REPLY_NUMBERS || part.len() < PART_NUMBERS {
         return;
     }
     let answer = mapedit::name_reply(map, junction);
-    let told = answer.reply();
-    put_reply(reply, told);
+    put_reply(reply, Reply::from(answer));
     put_name(map, junction, answer, part);
 }
 
@@ -177,8 +166,7 @@ pub extern "C" fn trunk_make_chains(map: &mut [u8], reply: &mut [u64])
     if reply.len() < REPLY_NUMBERS {
         return;
     }
-    let told = mapedit::make_chains(map).reply();
-    put_reply(reply, told);
+    put_reply(reply, Reply::from(mapedit::make_chains(map)));
 }
 
 // Striking a road.
@@ -189,8 +177,7 @@ pub extern "C" fn trunk_strike(map: &mut [u8], road: u32, reply: &mut [u64])
     if reply.len() < REPLY_NUMBERS {
         return;
     }
-    let told = striking::strike(map, road).reply();
-    put_reply(reply, told);
+    put_reply(reply, Reply::from(striking::strike(map, road)));
 }
 
 fn read_rules(words: &[u32]) -> Rules
@@ -221,32 +208,14 @@ fn read_figures(words: &[u32]) -> Figures
     }
 }
 
-fn mark_word(marked: bool) -> u32
-    ensures { result ≡ mark_word marked }
-{
-    if marked { 1 } else { 0 }
-}
-
 fn put_figures(words: &mut [u32], figures: Figures)
     requires { 4 ≤ length words.old }
     ensures { words.new ≡ figures_put words.old figures }
 {
-    let mark = mark_word(figures.marked);
     words[0] = figures.spell.0;
     words[1] = figures.shift.0;
     words[2] = figures.week.0;
-    words[3] = mark;
-}
-
-// A refused trace leaves every word of the lent figures, also a mark that is not spelled as the library would.
-fn leave_figures(words: &mut [u32], told: Reply, figures: Figures)
-    requires { 4 ≤ length words.old }
-    ensures { words.new ≡ figures_left told words.old figures }
-{
-    if told.number != 0 {
-        return;
-    }
-    put_figures(words, figures);
+    words[3] = u32::from(figures.marked);
 }
 
 // Replaying a trace.
@@ -254,20 +223,15 @@ fn leave_figures(words: &mut [u32], told: Reply, figures: Figures)
 pub extern "C" fn trunk_replay(trace: &[u8], rules: &[u32], figures: &mut [u32], reply: &mut [u64])
     ensures { ReplayCall trace.now rules.now figures.old figures.new reply.old reply.new }
 {
-    if reply.len() < REPLY_NUMBERS {
+    if reply.len() < REPLY_NUMBERS || rules.len() < RULE_WORDS || figures.len() < FIGURE_WORDS {
         return;
     }
-    if rules.len() < RULE_WORDS {
-        return;
+    let mut after = read_figures(figures);
+    let answer = replay::replay(trace, read_rules(rules), &mut after);
+    // A refused trace leaves every word of the lent figures, also a mark that is not spelled as the
+    // library would.
+    if answer.is_ok() {
+        put_figures(figures, after);
     }
-    if figures.len() < FIGURE_WORDS {
-        return;
-    }
-    let start = read_figures(figures);
-    let outcome = replay::replay_from(trace, read_rules(rules), start);
-    let after = outcome.figures;
-    let answer = outcome.answer;
-    let told = answer.reply();
-    leave_figures(figures, told, after);
-    put_reply(reply, told);
+    put_reply(reply, Reply::from(answer));
 }
