@@ -12,13 +12,19 @@
 ghost use Rattle.std.specs.Prelude.{◌≤◌, ◌<◌, length};
 
 use driving::{Figures, Rules};
-use replies::Reply;
+use replies::{Plan, Refusal, Reply, Success};
 use seconds::{Clock, Wheel};
-use std::io;
 use std::io::Read;
+use std::{fmt, io};
+use words::word;
 
 // Room for all cases. Cases that fill it may have lost their end, and are refused.
 const CASE_BYTES: usize = 524288;
+
+// The longest sheet that is lent, and the most words of label space.
+const SHEET_BYTES: usize = 1024;
+
+const LABEL_WORDS: usize = 4096;
 
 // The five words of a case.
 const HEADER_BYTES: usize = 20;
@@ -26,348 +32,240 @@ const HEADER_BYTES: usize = 20;
 // The driver's figures and the rules: an order's words 4 to 14.
 const HOURS_BYTES: usize = 44;
 
-// The refusals of the search. The others are given before it, and leave the label space as it was.
-const FIRST_OF_SEARCH: u32 = 12;
+// What every byte of a lent sheet holds beforehand, so that one that is written shows, and every label
+// word of a preview.
+const MARKED_BYTE: u8 = 0xEE;
 
-const LAST_OF_SEARCH: u32 = 14;
-
-// What every label word of a preview holds beforehand.
 const MARKED_WORD: u32 = 0xEEEEEEEE;
 
-// What a case says beside its bytes.
+// The operation that a case asks for.
 #[derive(Clone, Copy)]
-struct Case {
-    kind: u8,
-    number: u32,
-    words: u32,
+enum Kind {
+    CheckMap,
+    Name,
+    MakeChains,
+    Strike,
+    CheckOrder,
+    Audit,
+    Retime,
+    Replay,
+    Plan,
+    Preview,
 }
 
-fn print(rt: &impl Print, text: &[u8]) {
-    let _ = rt.write_all(text);
-}
+// A byte that stands for no operation.
+#[derive(Drop)]
+struct NoKind;
 
-fn print_number(rt: &impl Print, number: u64) {
-    let _ = print!(rt; "{number}");
-}
+impl TryFrom<u8> for Kind {
+    type Error = NoKind;
 
-fn print_reply(rt: &impl Print, reply: Reply) {
-    print_number(rt, reply.number as u64);
-    print(rt, b" ");
-    print_number(rt, reply.place as u64);
-    print(rt, b" ");
-    print_number(rt, reply.arrival as u64);
-}
-
-fn digit(value: u8) -> u8
-    requires { value < 16 }
-{
-    if value < 10 { value + 48 } else { value + 87 }
-}
-
-// A byte as a count.
-fn count_of(byte: u8) -> usize
-    ensures { result < 256 }
-{
-    byte as usize
-}
-
-fn print_bytes(rt: &impl Print, bytes: &[u8]) {
-    for byte in bytes {
-        let pair = [digit(*byte / 16), digit(*byte % 16)];
-        print(rt, &pair);
-    }
-}
-
-// Marks every byte of a sheet, so that one that is written shows.
-fn mark(sheet: &mut [u8]) {
-    for byte in sheet {
-        *byte = 0xEE;
-    }
-}
-
-// Copies as many bytes as both have.
-fn copy(from: &[u8], to: &mut [u8]) {
-    let mut i = 0;
-    while i < from.len() && i < to.len() {
-        to[i] = from[i];
-        i += 1;
-    }
-}
-
-fn fill(words: &mut [u32], value: u32) {
-    for word in words {
-        *word = value;
-    }
-}
-
-fn all_are(words: &[u32], value: u32) -> bool {
-    for word in words {
-        if *word != value {
-            return false;
+    fn try_from(byte: u8) -> Result<Kind, NoKind> {
+        match byte {
+            b'm' => Ok(Kind::CheckMap),
+            b'n' => Ok(Kind::Name),
+            b'c' => Ok(Kind::MakeChains),
+            b's' => Ok(Kind::Strike),
+            b'o' => Ok(Kind::CheckOrder),
+            b'a' => Ok(Kind::Audit),
+            b'r' => Ok(Kind::Retime),
+            b't' => Ok(Kind::Replay),
+            b'p' => Ok(Kind::Plan),
+            b'v' => Ok(Kind::Preview),
+            _ => Err(NoKind),
         }
     }
-    true
 }
 
-fn chain_or_strike(case: Case, map: &mut [u8]) -> Reply {
-    if case.kind == b's' {
-        return striking::strike(map, case.number).reply();
-    }
-    mapedit::make_chains(map).reply()
+// What a case says after its title.
+#[derive(Drop)]
+struct Case<'a> {
+    number: u32,
+    // the words of label space
+    words: usize,
+    map: &'a mut [u8],
+    order: &'a [u8],
+    sheet: &'a [u8],
 }
 
-fn run_on_map(rt: &impl Print, case: Case, map: &mut [u8]) {
-    if case.kind == b'm' {
-        print_reply(rt, mapcheck::check_map(map).reply());
-    }
-    if case.kind == b'n' {
-        print_reply(rt, mapedit::name_reply(map, case.number).reply());
-        print(rt, b" <");
-        print(rt, mapedit::name(map, case.number));
-        print(rt, b">");
-    }
-    if case.kind == b'c' || case.kind == b's' {
-        print_reply(rt, chain_or_strike(case, map));
-        print(rt, b" ");
-        print_bytes(rt, map);
-    }
-}
+// Bytes as hexadecimal digits.
+#[derive(Drop)]
+struct Hex<'a>(&'a [u8]);
 
-fn run_on_order(rt: &impl Print, case: Case, order: &[u8]) {
-    if case.kind == b'o' {
-        print_reply(rt, driving::check_order(order, case.number).reply());
+impl fmt::Display for Hex<'_> {
+    fn fmt<W: fmt::Write>(&self, f: &mut fmt::Formatter<W>) -> fmt::Result {
+        for byte in self.0 {
+            write!(f, "{byte:02x}")?;
+        }
+        Ok(())
     }
 }
 
-fn retime_marked(rt: &impl Print, map: &[u8], order: &[u8], sheet: &[u8], lent: &mut [u8]) {
-    mark(lent);
-    print_reply(rt, retiming::retime(map, order, sheet, lent).reply());
-    print(rt, b" ");
-    print_bytes(rt, lent);
+fn print_answer<T: Success>(rt: &impl Print, answer: Result<T, Refusal>) -> io::Result<()> {
+    let Reply {
+        number,
+        place,
+        arrival,
+    } = Reply::from(answer);
+    print!(rt; "{number} {place} {arrival}")
 }
 
-fn run_on_sheet(
+fn print_name(rt: &impl Print, map: &[u8], junction: u32) -> io::Result<()> {
+    print_answer(rt, mapedit::name_reply(map, junction))?;
+    print!(rt; " <")?;
+    rt.write_all(mapedit::name(map, junction))?;
+    print!(rt; ">")
+}
+
+// The answer of an operation that changes a map or writes a sheet, and the bytes afterwards.
+fn print_written<T: Success>(
     rt: &impl Print,
-    case: Case,
-    map: &[u8],
-    order: &[u8],
-    sheet: &[u8],
-    space: &mut [u8],
-) {
-    if case.kind == b'a' {
-        print_reply(rt, retiming::audit(map, order, sheet).reply());
+    answer: Result<T, Refusal>,
+    bytes: &[u8],
+) -> io::Result<()> {
+    print_answer(rt, answer)?;
+    print!(rt; " {}", Hex(bytes))
+}
+
+fn run_change<F>(rt: &impl Print, map: &mut [u8], change: F) -> io::Result<()>
+where
+    F: FnOnce(&mut [u8]) -> Result<(), Refusal>,
+    requires { F.IsAlwaysCallable change }
+{
+    let answer = change(map);
+    print_written(rt, answer, map)
+}
+
+fn run_audit(rt: &impl Print, case: &Case<'_>) -> io::Result<()> {
+    print_answer(rt, retiming::audit(case.map, case.order, case.sheet))
+}
+
+fn run_retiming(rt: &impl Print, case: &Case<'_>) -> io::Result<()> {
+    let length = case.number as usize;
+    if SHEET_BYTES < length {
+        return Ok(());
     }
-    let lent = case.number as usize;
-    if case.kind == b'r' && lent <= space.len() {
-        retime_marked(rt, map, order, sheet, &mut space[0..lent]);
-    }
+    let mut space = [MARKED_BYTE; SHEET_BYTES];
+    let lent = &mut space[..length];
+    let answer = retiming::retime(case.map, case.order, case.sheet, lent);
+    print_written(rt, answer, lent)
 }
 
 // Prints the reply, and the figures afterwards.
-fn run_replay(rt: &impl Print, marked: bool, hours: &[u8], trace: &[u8]) {
+fn run_replay(rt: &impl Print, marked: bool, hours: &[u8], trace: &[u8]) -> io::Result<()> {
     if hours.len() != HOURS_BYTES {
-        return;
+        return Ok(());
     }
     let figures = Figures {
-        spell: Wheel(words::word(hours, 0)),
-        shift: Wheel(words::word(hours, 4)),
-        week: Wheel(words::word(hours, 40)),
+        spell: Wheel(word(hours, 0)),
+        shift: Wheel(word(hours, 4)),
+        week: Wheel(word(hours, 40)),
         marked,
     };
     let rules = Rules {
-        spell_limit: Wheel(words::word(hours, 8)),
-        break_time: Clock(words::word(hours, 12)),
-        shift_limit: Wheel(words::word(hours, 16)),
-        rest_time: Clock(words::word(hours, 20)),
-        first_part: Clock(words::word(hours, 24)),
-        second_part: Clock(words::word(hours, 28)),
-        week_limit: Wheel(words::word(hours, 32)),
-        weekly_rest: Clock(words::word(hours, 36)),
+        spell_limit: Wheel(word(hours, 8)),
+        break_time: Clock(word(hours, 12)),
+        shift_limit: Wheel(word(hours, 16)),
+        rest_time: Clock(word(hours, 20)),
+        first_part: Clock(word(hours, 24)),
+        second_part: Clock(word(hours, 28)),
+        week_limit: Wheel(word(hours, 32)),
+        weekly_rest: Clock(word(hours, 36)),
     };
-    let outcome = replay::replay_from(trace, rules, figures);
-    let answer = outcome.answer;
-    let after = outcome.figures;
-    print_reply(rt, answer.reply());
-    print(rt, b" ");
-    print_number(rt, after.spell.0 as u64);
-    print(rt, b" ");
-    print_number(rt, after.shift.0 as u64);
-    print(rt, b" ");
-    print_number(rt, after.week.0 as u64);
-    if after.marked {
-        print(rt, b" 1");
-    } else {
-        print(rt, b" 0");
+    let replayed = replay::replay_from(trace, rules, figures);
+    let after = replayed.figures;
+    let mark = u8::from(after.marked);
+    print_answer(rt, replayed.answer)?;
+    print!(rt;
+        " {} {} {} {mark}",
+        after.spell.0, after.shift.0, after.week.0
+    )
+}
+
+// Plans with label words that all hold the same, and a lent sheet that holds the case's. Where a
+// refusal came before the search, tells whether every label word is as it was.
+fn run_planning<F>(rt: &impl Print, case: &Case<'_>, before: u32, plan: F) -> io::Result<()>
+where
+    F: FnOnce(&Case<'_>, &mut [u32], &mut [u8]) -> Result<Plan, Refusal>,
+    requires { F.IsAlwaysCallable plan }
+{
+    let length = case.sheet.len();
+    if SHEET_BYTES < length || LABEL_WORDS < case.words {
+        return Ok(());
+    }
+    let mut labels = [before; LABEL_WORDS];
+    let mut space = [0; SHEET_BYTES];
+    let words = &mut labels[..case.words];
+    let lent = &mut space[..length];
+    lent.copy_from_slice(case.sheet);
+    let answer = plan(case, words, lent);
+    print_written(rt, answer, lent)?;
+    match answer {
+        Ok(_) | Err(Refusal::Full(_) | Refusal::NoRoad(_) | Refusal::ShortSheet(_)) => Ok(()),
+        Err(_) if words.iter().all(|word| *word == before) => print!(rt; " kept"),
+        Err(_) => print!(rt; " changed"),
     }
 }
 
-// Where a refusal came before the search, whether every label word is as it was.
-fn print_kept(rt: &impl Print, number: u32, words: &[u32], before: u32) {
-    if number == 0 || (FIRST_OF_SEARCH <= number && number <= LAST_OF_SEARCH) {
-        return;
-    }
-    if all_are(words, before) {
-        print(rt, b" kept");
-    } else {
-        print(rt, b" changed");
+fn run(rt: &impl Print, kind: Kind, case: Case<'_>) -> io::Result<()> {
+    let number = case.number;
+    match kind {
+        Kind::CheckMap => print_answer(rt, mapcheck::check_map(case.map)),
+        Kind::Name => print_name(rt, case.map, number),
+        Kind::MakeChains => run_change(rt, case.map, mapedit::make_chains),
+        Kind::Strike => run_change(rt, case.map, |map| striking::strike(map, number)),
+        Kind::CheckOrder => print_answer(rt, driving::check_order(case.order, number)),
+        Kind::Audit => run_audit(rt, &case),
+        Kind::Retime => run_retiming(rt, &case),
+        Kind::Replay => run_replay(rt, number != 0, case.order, case.sheet),
+        Kind::Plan => run_planning(rt, &case, number, |case, words, lent| {
+            planner::plan(case.map, case.order, words, lent)
+        }),
+        Kind::Preview => run_planning(rt, &case, MARKED_WORD, |case, words, lent| {
+            planner::preview(case.map, case.order, number, words, lent)
+        }),
     }
 }
 
-fn held_before(case: Case) -> u32 {
-    if case.kind == b'v' {
-        MARKED_WORD
-    } else {
-        case.number
+// Runs the case at the head of the bytes, and returns how many it takes: all, where it is cut off.
+fn run_case(rt: &impl Print, bytes: &mut [u8]) -> usize
+    requires { 0 < length bytes.old }
+    ensures some { 0 < result }
+    ensures within { result ≤ length bytes.old }
+{
+    let all = bytes.len();
+    if all < 2 {
+        return all;
     }
-}
-
-fn plan_or_preview(
-    case: Case,
-    map: &[u8],
-    order: &[u8],
-    words: &mut [u32],
-    lent: &mut [u8],
-) -> Reply {
-    if case.kind == b'v' {
-        return planner::preview(map, order, case.number, words, lent).reply();
+    let header = 2 + usize::from(bytes[1]);
+    let map = header + HEADER_BYTES;
+    if all < map {
+        return all;
     }
-    planner::plan(map, order, words, lent).reply()
-}
-
-// With label words that all hold the same, and a lent sheet that holds the case's.
-fn plan_filled(
-    rt: &impl Print,
-    case: Case,
-    map: &[u8],
-    order: &[u8],
-    sheet: &[u8],
-    words: &mut [u32],
-    lent: &mut [u8],
-) {
-    let before = held_before(case);
-    fill(words, before);
-    copy(sheet, lent);
-    let reply = plan_or_preview(case, map, order, words, lent);
-    print_reply(rt, reply);
-    print(rt, b" ");
-    print_bytes(rt, lent);
-    print_kept(rt, reply.number, words, before);
-}
-
-fn run_planning(
-    rt: &impl Print,
-    case: Case,
-    map: &[u8],
-    order: &[u8],
-    sheet: &[u8],
-    space: &mut [u8],
-    labels: &mut [u32],
-) {
-    let lent = sheet.len();
-    let words = case.words as usize;
-    if lent <= space.len() && words <= labels.len() {
-        plan_filled(
-            rt,
-            case,
-            map,
+    let order = map + (word(bytes, header + 8) as usize);
+    let sheet = order + (word(bytes, header + 12) as usize);
+    let end = sheet + (word(bytes, header + 16) as usize);
+    if all < end {
+        return all;
+    }
+    let kind = Kind::try_from(bytes[0]);
+    let number = word(bytes, header);
+    let words = word(bytes, header + 4) as usize;
+    let _ = rt.write_all(&bytes[2..header]);
+    let _ = print!(rt; ": ");
+    if let Ok(kind) = kind {
+        let (lent, rest) = bytes[map..end].split_at_mut(order - map);
+        let (order, sheet) = rest.split_at(sheet - order);
+        let case = Case {
+            number,
+            words,
+            map: lent,
             order,
             sheet,
-            &mut labels[0..words],
-            &mut space[0..lent],
-        );
+        };
+        let _ = run(rt, kind, case);
     }
-}
-
-// Runs a case on its bytes: the map, then the order from `order` on, then the sheet from `sheet` on.
-fn run(
-    rt: &impl Print,
-    case: Case,
-    bytes: &mut [u8],
-    order: usize,
-    sheet: usize,
-    space: &mut [u8],
-    labels: &mut [u32],
-)
-    requires { (order ≤ sheet) × (sheet ≤ length bytes.old) }
-{
-    let end = bytes.len();
-    if case.kind == b'p' || case.kind == b'v' {
-        run_planning(
-            rt,
-            case,
-            &bytes[0..order],
-            &bytes[order..sheet],
-            &bytes[sheet..end],
-            space,
-            labels,
-        );
-        return;
-    }
-    if case.kind == b't' {
-        run_replay(
-            rt,
-            case.number != 0,
-            &bytes[order..sheet],
-            &bytes[sheet..end],
-        );
-        return;
-    }
-    run_on_sheet(
-        rt,
-        case,
-        &bytes[0..order],
-        &bytes[order..sheet],
-        &bytes[sheet..end],
-        space,
-    );
-    run_on_order(rt, case, &bytes[order..sheet]);
-    run_on_map(rt, case, &mut bytes[0..order]);
-}
-
-// Runs the case that starts at `at` of the first n bytes, and returns where the next one starts.
-fn run_case(
-    rt: &impl Print,
-    cases: &mut [u8],
-    n: usize,
-    at: usize,
-    space: &mut [u8],
-    labels: &mut [u32],
-) -> usize
-    requires { (n ≤ length cases.old) × (at < n) }
-    ensures { at < result }
-{
-    if n - at < 2 {
-        return n;
-    }
-    let title = at + 2;
-    let header = title + count_of(cases[at + 1]);
-    if n < header + HEADER_BYTES {
-        return n;
-    }
-    let case = Case {
-        kind: cases[at],
-        number: words::word(cases, header),
-        words: words::word(cases, header + 4),
-    };
-    let map = header + HEADER_BYTES;
-    let order = map + (words::word(cases, header + 8) as usize);
-    let sheet = order + (words::word(cases, header + 12) as usize);
-    let end = sheet + (words::word(cases, header + 16) as usize);
-    if n < end {
-        return n;
-    }
-    print(rt, &cases[title..header]);
-    print(rt, b": ");
-    run(
-        rt,
-        case,
-        &mut cases[map..end],
-        order - map,
-        sheet - map,
-        space,
-        labels,
-    );
-    print(rt, b"\n");
+    let _ = println!(rt; "");
     end
 }
 
@@ -379,36 +277,27 @@ fn read_full(input: &mut impl Read, space: &mut [u8]) -> usize
     let mut done = 0;
     while done < space.len() {
         match input.read(&mut space[done..]) {
-            Err(_) => return done,
-            Ok(0) => return done,
+            Ok(0) | Err(_) => break,
             Ok(more) => done += more,
         }
     }
     done
 }
 
-fn run_all(
-    rt: &impl Print,
-    input: &mut impl Read,
-    cases: &mut [u8],
-    space: &mut [u8],
-    labels: &mut [u32],
-) {
+fn run_all(rt: &impl Print, input: &mut impl Read, cases: &mut [u8]) {
     let n = read_full(input, cases);
     if n == cases.len() {
-        print(rt, b"too many cases\n");
+        let _ = println!(rt; "too many cases");
         return;
     }
     let mut at = 0;
     while at < n {
-        at = run_case(rt, cases, n, at, space, labels);
+        at += run_case(rt, &mut cases[at..n]);
     }
 }
 
 fn main(rt: HostRuntime) -> io::Result<()> {
     let mut cases = vec![in rt.alloc(); 0u8; CASE_BYTES]?;
-    let mut sheet = [0u8; 1024];
-    let mut labels = [0u32; 4096];
-    run_all(&rt, &mut rt.stdin(), &mut cases, &mut sheet, &mut labels);
+    run_all(&rt, &mut rt.stdin(), &mut cases);
     Ok(())
 }
