@@ -7,7 +7,7 @@ ghost use Rattle.replies.specs.Told.{succeeded, told_check};
 ghost use Rattle.replies.specs.First.{◌at◌, first_of};
 ghost use Rattle.driving.specs.Pauses.{pause_number, PauseNumbered};
 ghost use Rattle.driving.specs.Order.{european_rules, order_bytes, order_of, part_taken, bad_rules, bad_ends, bad_figures, bad_trip, order_tests};
-ghost use Rattle.driving.specs.Hours.{wheel_figures, highest_limits, unmarked, driven_on, first_pause, last_pause, has_split, pause_seconds, allows_pause, cleared};
+ghost use Rattle.driving.specs.Hours.{wheel_figures, wheel_limits, highest_limits, unmarked, driven_on, first_pause, last_pause, has_split, pause_seconds, allows_pause, cleared};
 
 use replies::Refusal;
 use seconds::{Clock, Wheel};
@@ -142,6 +142,16 @@ pub fn driven(figures: Figures, seconds: u32) -> Figures
         week: Wheel(figures.week.0 + seconds),
         ..figures
     }
+}
+
+// Whether no figure is above its limit.
+#[tactic(auto, using(crate::proofs::Clocks::at_most), unfolding(theory::specs::Figures::none_above))]
+pub fn within_limits(figures: Figures, rules: Rules) -> bool
+    ensures { result ≡ none_above (wheel_figures figures) (wheel_limits rules) }
+{
+    figures.spell <= rules.spell_limit
+        && figures.shift <= rules.shift_limit
+        && figures.week <= rules.week_limit
 }
 
 // Both parts zero means no split.

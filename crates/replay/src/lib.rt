@@ -2,11 +2,9 @@
 #![tactic(auto)]
 
 ghost use Rattle.std.specs.Prelude.{◌≡◌, false, ◌*◌, ◌≤◌, length, Ok, Err, MatchResult};
-ghost use Rattle.theory.specs.Figures.{none_above};
 ghost use Rattle.replies.specs.First.{first_of};
 ghost use Rattle.replies.specs.Told.{succeeded, told_check};
 ghost use Rattle.driving.specs.Accepted.{SoundRules, SoundFigures};
-ghost use Rattle.driving.specs.Hours.{wheel_figures, wheel_limits};
 ghost use Rattle.replay.specs.Trace.{trace_record_bytes, trace_record_at, record_count};
 ghost use Rattle.replay.specs.Replay.{after_short_pause, after_pause, is_odd, Replayed};
 ghost use Rattle.replay.specs.Steps.{activity_number, begun, start_tests, lengthened, Sound, step_on, stepped, WalkSays, TraceSays};
@@ -15,7 +13,7 @@ use driving::{Figures, Pause, Rules};
 use replies::Refusal;
 use seconds::Clock;
 
-// A pair of words of the trace: the activity says whether the seconds are wheel or clock time.
+// A pair of words of the trace, each any number: the activity says whether the seconds are wheel or clock time.
 #[derive(Clone, Copy)]
 pub struct TraceRecord {
     pub activity: u32,
@@ -155,15 +153,6 @@ fn step_on(before: Underway, rules: Rules, taken: TraceRecord) -> Underway
     }
 }
 
-#[tactic(auto, using(driving::proofs::Clocks::at_most), unfolding(theory::specs::Figures::none_above))]
-fn within_limits(figures: Figures, rules: Rules) -> bool
-    ensures { result ≡ none_above (wheel_figures figures) (wheel_limits rules) }
-{
-    figures.spell <= rules.spell_limit
-        && figures.shift <= rules.shift_limit
-        && figures.week <= rules.week_limit
-}
-
 // Record k: 22 before 23.
 fn take_record(
     before: Underway,
@@ -178,7 +167,7 @@ fn take_record(
         return Err(Refusal::OddRecord(k));
     }
     let next = step_on(before, rules, taken);
-    if taken.activity() == Activity::Driving && !within_limits(next.figures, rules) {
+    if taken.activity() == Activity::Driving && !driving::within_limits(next.figures, rules) {
         return Err(Refusal::PastLimit(k));
     }
     Ok(next)

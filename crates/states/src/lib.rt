@@ -44,12 +44,7 @@ pub fn start_of(order: Order) -> State
 pub fn is_legal(order: Order, state: State) -> bool
     ensures { result ≡ legal order state }
 {
-    let figures = state.figures;
-    let rules = order.rules;
-    state.clock <= order.latest
-        && figures.spell <= rules.spell_limit
-        && figures.shift <= rules.shift_limit
-        && figures.week <= rules.week_limit
+    state.clock <= order.latest && driving::within_limits(state.figures, order.rules)
 }
 
 // Whether b is at a's junction, and no worse: of two states the one with the mark is better.
