@@ -27,7 +27,7 @@ use Rattle.moves.specs.declared.Run.{Run}
 use Rattle.moves.specs.Trip.{Stretch, Trip, trip_of, road_in, roads_in, junctions_in}
 use Rattle.moves.specs.Struck.{struck_in}
 use Rattle.moves.specs.Moves.{offers, after, move_seconds}
-use Rattle.moves.specs.Runs.{Accepted, trip_in, Tied, InRange, RangeIn}
+use Rattle.moves.specs.Runs.{Accepted, struck_of, trip_in, Tied, InRange, RangeIn}
 pub use Rattle.moves.specs.Runs.{SoundTrip}
 use Rattle.moves.proofs.Trips.{roads_in_lem, junctions_in_lem, order_in, road_in_lem}
 use Rattle.moves.proofs.Struck.{struck_roads, struck_parks, struck_order, struck_seconds, struck_other, struck_own}
@@ -86,10 +86,10 @@ pub run_sound : (map : List ℕ) (banned : ℕ → Bool) (run : Run) → Accepte
 run_sound map banned run accepted =
     let trip : Trip = trip_of map banned run.order in
     let roads = (sound_map map accepted.mapped).roads in
-    struck_sound trip (sound_trip map banned run.order accepted.mapped accepted.ordered) run.struck
+    struck_sound trip (sound_trip map banned run.order accepted.mapped accepted.ordered) (struck_of run)
     (λ low high.
-    let top : run.struck ≤ road_count map = accepted.known in
-    rw (road_in_lem map banned run.order run.struck low top, junctions_in_lem map banned run.order) ((roads run.struck low top).from.above, (roads run.struck low top).from.below))
+    let top : struck_of run ≤ road_count map = accepted.known in
+    rw (road_in_lem map banned run.order (struck_of run) low top, junctions_in_lem map banned run.order) ((roads (struck_of run) low top).from.above, (roads (struck_of run) low top).from.below))
 
 -- arrival less departure is the sum of road times, breaks, rests, parts of breaks and weekly rests
 pub clock_after : (trip : Trip) (s : State) (m : Move) → (after trip s m).clock.0 ≡ s.clock.0 + move_seconds trip m

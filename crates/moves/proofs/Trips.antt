@@ -19,7 +19,7 @@ use Rattle.moves.specs.Trip.{Stretch, Trip, road_time, stretch_of, counted, trip
 use Rattle.moves.specs.Bans.{AgreeOn}
 use Rattle.moves.specs.Moves.{leaves, may_pause}
 use Rattle.moves.specs.Struck.{struck_stretch, struck_in}
-use Rattle.moves.specs.Runs.{trip_in, stretch_in, Unstruck, Tied, InRange}
+use Rattle.moves.specs.Runs.{struck_number, struck_of, trip_in, stretch_in, Unstruck, Tied, InRange}
 use Rattle.moves.proofs.Struck.{struck_roads, struck_parks, struck_order, struck_other, struck_own}
 
 pub counted_length : {A : Type 0} (f : ℕ → A) (k n : ℕ) → length (counted f k n) ≡ n
@@ -97,36 +97,36 @@ module _ (map : List ℕ) (banned : ℕ → Bool) (run : Run) where
   run_road : (r : ℕ) → 1 ≤ r → r ≤ road_count map → road_in (trip_in map banned run) r ≡ stretch_in map banned run r
   run_road r low high =
       ⊎_elim
-      (λ (own : eqb r run.struck ≡ true).
-      ap (λ (k : ℕ). road_in (struck_in k lent) r) (sym (eqb-true r run.struck own))
+      (λ (own : eqb r (struck_of run) ≡ true).
+      ap (λ (k : ℕ). road_in (struck_in k lent) r) (sym (eqb-true r (struck_of run) own))
       ∙ struck_own lent r low (rw (roads_in_lem map banned run.order) high)
       ∙ ap struck_stretch (road_in_lem map banned run.order r low high)
       ∙ rw own refl)
-      (λ (other : eqb r run.struck ≡ false).
-      struck_other lent run.struck r low (eqb-false r run.struck other) ∙ road_in_lem map banned run.order r low high ∙ rw other refl)
-      (cases (eqb r run.struck))
+      (λ (other : eqb r (struck_of run) ≡ false).
+      struck_other lent (struck_of run) r low (eqb-false r (struck_of run) other) ∙ road_in_lem map banned run.order r low high ∙ rw other refl)
+      (cases (eqb r (struck_of run)))
 
   pub run_tied : Tied map banned run (trip_in map banned run)
   run_tied =
       record {
-        junctions = ap length (struck_parks lent run.struck) ∙ junctions_in_lem map banned run.order;
-        roads = struck_roads lent run.struck ∙ roads_in_lem map banned run.order;
+        junctions = ap length (struck_parks lent (struck_of run)) ∙ junctions_in_lem map banned run.order;
+        roads = struck_roads lent (struck_of run) ∙ roads_in_lem map banned run.order;
         road = run_road;
-        park = λ j low high. ap (λ (l : List Bool). get_or l (j - 1) false) (struck_parks lent run.struck) ∙ park_in_lem map banned run.order j low high;
-        order = struck_order lent run.struck ∙ order_in map banned run.order;
+        park = λ j low high. ap (λ (l : List Bool). get_or l (j - 1) false) (struck_parks lent (struck_of run)) ∙ park_in_lem map banned run.order j low high;
+        order = struck_order lent (struck_of run) ∙ order_in map banned run.order;
       }
 
 -- without a struck road it is that of the map and the order
 pub unstruck_trip : {map : List ℕ} (banned : ℕ → Bool) {run : Run} {order : Order} → Unstruck map run → run.order ≡ order
     → trip_in map banned run ≡ trip_of map banned order
 unfolding struck_in
-unstruck_trip {map} banned opened is = ap₂ (λ (k : ℕ) (o : Order). struck_in k (trip_of map banned o)) opened.none_struck is
+unstruck_trip {map} banned opened is = ap₂ (λ (k : ℕ) (o : Order). struck_in k (trip_of map banned o)) (ap struck_number opened.none_struck) is
 
 -- the trip is the same, however it is told which of its roads are banned
 pub same_bans : (map : List ℕ) (p q : ℕ → Bool) (run : Run) → AgreeOn (road_count map) p q → trip_in map p run ≡ trip_in map q run
 unfolding trip_of
 same_bans map p q run agree =
-    ap (λ (roads : List Stretch). struck_in run.struck (record { roads = roads; parks = (trip_of map p run.order).parks; order = run.order }))
+    ap (λ (roads : List Stretch). struck_in (struck_of run) (record { roads = roads; parks = (trip_of map p run.order).parks; order = run.order }))
     (counted_same _ _ 1 (road_count map) (λ r low high. ap (λ (b : Bool). record { from = road_from map r; to = road_to map r; seconds = road_time map r; banned = b }) (agree r low (omega arith))))
 
 -- which roads leave a junction, and which pauses the rules offer there, by the map

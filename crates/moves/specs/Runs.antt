@@ -1,6 +1,6 @@
 -- What the code knows of a run: the map and the order are accepted; what its trip is in the map's bytes, and what is sound of it; a
 -- state's figures are in range. Assumes nothing.
-use Rattle.std.specs.Prelude.{◌≡◌, Bool, true, false, List, ℕ, ◌≤◌, eqb}
+use Rattle.std.specs.Prelude.{Option, Some, None, ◌≡◌, Bool, true, false, List, ℕ, ◌≤◌, eqb}
 use Rattle.roadmap.specs.Format.{HasSizes, most_junctions, most_roads, junction_count, road_count, car_park, road_from, road_to}
 use Rattle.mapcheck.specs.MapCheck.{AcceptedMap}
 use Rattle.driving.specs.declared.Order.{Order}
@@ -11,20 +11,28 @@ use Rattle.states.specs.States.{legal}
 use Rattle.moves.specs.Trip.{Stretch, Trip, road_time, trip_of, road_in, park_in, roads_in, junctions_in}
 use Rattle.moves.specs.Struck.{struck_in}
 
+-- the number of the road that is struck for a run, 0 for none
+abbrev pub struck_number : Option ℕ → ℕ
+struck_number None = 0
+struck_number (Some road) = road
+
+abbrev pub struck_of : Run → ℕ
+struck_of run = struck_number run.struck
+
 pub record Accepted (map : List ℕ) (run : Run) : Type 0 where
   pub sized : HasSizes map run.sizes
   pub mapped : AcceptedMap map
   pub ordered : AcceptedOrder (junction_count map) run.order
-  pub known : run.struck ≤ road_count map
+  pub known : struck_of run ≤ road_count map
 
 -- the same, and no road is struck
 pub record Unstruck (map : List ℕ) (run : Run) : Type 0 where
   pub accepted : Accepted map run
-  pub none_struck : run.struck ≡ 0
+  pub none_struck : run.struck ≡ None
 
 -- the trip of the map's bytes, the banned roads and the run's order, with the run's road struck
 abbrev pub trip_in : List ℕ → (ℕ → Bool) → Run → Trip
-trip_in map banned run = struck_in run.struck (trip_of map banned run.order)
+trip_in map banned run = struck_in (struck_of run) (trip_of map banned run.order)
 
 -- where a road of the map's bytes leads: a struck one back to where it begins
 abbrev pub end_when : Bool → List ℕ → ℕ → ℕ
@@ -36,7 +44,7 @@ abbrev pub stretch_in : List ℕ → (ℕ → Bool) → Run → ℕ → Stretch
 stretch_in map banned run r =
     record {
       from = road_from map r;
-      to = end_when (eqb r run.struck) map r;
+      to = end_when (eqb r (struck_of run)) map r;
       seconds = road_time map r;
       banned = banned r;
     }

@@ -12,7 +12,7 @@ ghost use Rattle.driving.specs.Pauses.{pause_number};
 ghost use Rattle.states.specs.States.{legal};
 ghost use Rattle.moves.specs.Trip.{road_time, none_banned};
 ghost use Rattle.moves.specs.Moves.{move, driven, paused, judged, stepped, leaves, may_pause};
-ghost use Rattle.moves.specs.Runs.{trip_in, end_when, stretch_in, InRange, RangeIn};
+ghost use Rattle.moves.specs.Runs.{struck_of, trip_in, end_when, stretch_in, InRange, RangeIn};
 ghost use Rattle.moves.specs.OpenRuns.{listed_trip};
 ghost use Rattle.moves.specs.Given.{given_of};
 ghost use Rattle.moves.specs.Opened.{OpenedSays};
@@ -29,11 +29,11 @@ use states::State;
 pub struct Run {
     pub sizes: Sizes,
     pub order: Order,
-    // the road that is struck for this run, 0 for none
-    pub struck: u32,
+    // the road that is struck for this run
+    pub struck: Option<u32>,
 }
 
-// Kind 1 is a drive of a road, the others are pauses at a junction.
+// Kind 1 is a drive of a road, the others are pauses at a junction. Both are any numbers, as a sheet may hold them.
 #[derive(Clone, Copy)]
 pub struct Move {
     pub kind: u32,
@@ -63,10 +63,10 @@ pub fn seconds_of(run: &OpenRun<'_>, r: u32) -> u32
 // Where road r leads: a struck one back to where it begins.
 fn end_of(run: &OpenRun<'_>, r: u32) -> u32
     requires { (1 ≤ r) × (r ≤ road_count run.now.map.now) }
-    ensures { result ≡ end_when (eqb r run.now.about.struck) run.now.map.now r }
+    ensures { result ≡ end_when (eqb r (struck_of run.now.about)) run.now.map.now r }
 {
     let map = run.road_map();
-    if r == run.about.struck {
+    if run.about.struck == Some(r) {
         map.road_from(r)
     } else {
         map.road_to(r)
@@ -180,7 +180,7 @@ pub fn open_run<'a>(map: &'a [u8], order: &[u8]) -> Result<OpenRun<'a>, Refusal>
     let about = Run {
         sizes,
         order: driving::read_order(order),
-        struck: 0,
+        struck: None,
     };
     Ok(OpenRun {
         map,

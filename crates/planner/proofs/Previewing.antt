@@ -8,7 +8,7 @@ use native.Mathlib.Omega.{arith}
 use borrow.Author.Tests.{eqb-false, ne_eqb}
 use lib.Dec.{eqb}
 use lib.ListN.{length}
-use Rattle.std.specs.Prelude.{Result, Ok, Err}
+use Rattle.std.specs.Prelude.{Some, Result, Ok, Err}
 use Rattle.replies.specs.declared.Plan.{Plan}
 use Rattle.booleans.proofs.Tests.{cases}
 use Rattle.replies.specs.declared.Refusal.{Refusal}
@@ -71,7 +71,7 @@ module _ (given : Given) (road : ℕ) where
   -- so an opened run is accepted with that road struck, and its trip is that of the map so struck
   module _ (run : OpenRun) (opened : OpenedSays given (Ok run)) (inside : outside 1 (road_count map) road ≡ false) where
     abbrev closed : Run
-    closed = record { sizes = run.about.sizes; order = run.about.order; struck = road }
+    closed = record { sizes = run.about.sizes; order = run.about.order; struck = Some road }
 
     pub closed_accepted : Accepted run.map.now closed
     closed_accepted =

@@ -112,7 +112,7 @@ pub fn preview(
         closed: run.closed,
         bans: run.bans,
         about: Run {
-            struck: road,
+            struck: Some(road),
             ..run.about
         },
     };

@@ -1,5 +1,5 @@
 use Rattle.std.proofs.Common.{List, ℕ, ◌≡◌, refl, arith, Ok, Err}
-use Rattle.std.specs.Prelude.{Result}
+use Rattle.std.specs.Prelude.{Result, None}
 use Rattle.std.proofs.lemmas.Result.{err_from_is_err_and}
 use Rattle.replies.specs.declared.Refusal.{Refusal}
 use Rattle.replies.specs.First.{first_of, NoneFits, Tried}
@@ -22,7 +22,7 @@ order_tried map order junctions answer is told = rw (← is) (tried (order_tests
 -- what passes both is accepted, with no road struck
 accepted_run : (map order : List ℕ) (sizes : Sizes) → NoneFits (map_tests map) → NoneFits (order_tests (junction_count map) order)
     → (sizes.junctions ≡ junction_count map) × (sizes.roads ≡ road_count map) × (sizes.names ≡ name_bytes map)
-    → Accepted map (record { sizes = sizes; order = order_of order; struck = 0 })
+    → Accepted map (record { sizes = sizes; order = order_of order; struck = None })
 accepted_run map order sizes mapped ordered read =
     record {
       sized = has_sizes map sizes (accepted_sizes map mapped) read;
