@@ -1,4 +1,5 @@
 -- The laws of labels that callers cite.
 pub mod LabelWords
 pub mod Lists
+pub mod Rooms
 pub mod Tree
