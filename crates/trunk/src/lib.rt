@@ -1,6 +1,6 @@
 // Every operation as a function that C and Rust can call. include/trunk.h describes them to callers.
 // A slice is a pointer and a length there. The reply is written as three numbers to a lent run; who
-// has no room for it gets nothing changed.
+// has no room for it gets nothing changed: each function asks that first, since each has a signature of its own.
 #![tactic(auto)]
 
 ghost use Rattle.std.specs.Prelude.{◌≡◌, ◌≤◌, length};
