@@ -29,7 +29,7 @@ fn judge_clock(state: State, clock: Clock, k: usize, clocks: bool) -> Result<Sta
     }
 }
 
-// The walk over one record, the k-th.
+// The walk over one record, the k-th. Whether clocks are compared is a `Bool` in the definition of the walk too.
 #[tactic(auto, using(crate::proofs::Walking::walk_foreign, crate::proofs::Walking::walk_overrun, crate::proofs::Walking::says_clock))]
 fn walk_row(
     run: &OpenRun<'_>,

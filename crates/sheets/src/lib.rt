@@ -26,7 +26,7 @@ impl Heading {
     pub const MOST_MOVES: u32 = 999999;
 }
 
-// A move's three words: its kind, the road number or pausing junction, the clock after it.
+// A move's three words, any numbers: its kind, the road number or pausing junction, the clock after it.
 #[derive(Clone, Copy)]
 pub struct Row {
     pub kind: u32,
