@@ -11,7 +11,7 @@ use lib.Dec.{T, eqb, ltb, lit≤}
 use Rattle.booleans.proofs.Tests.{cases, not_both, some_not_none, T_true, and_l, and_r}
 use Rattle.replies.specs.declared.Reply.{Reply}
 use Rattle.replies.specs.declared.Refusal.{Refusal}
-use Rattle.replies.specs.declared.Refusal.TheVariants.{ShortMap, StrangeMap, Oversize, Misfit, BadJunction, BadRoad, BrokenChain, BadLettering, BadOrder, BadRules, BadTrip, Full, NoRoad, ShortSheet, TornSheet, ForeignMove, Overrun, FalseFigure, Stray, UnknownName, TornTrace, OddRecord, PastLimit, UnknownRoad}
+use Rattle.replies.specs.declared.Refusal.TheVariants.{ShortMap, StrangeMap, Oversize, Misfit, BadJunction, BadRoad, BrokenChain, BadLettering, BadOrder, BadRules, BadTrip, Full, NoRoad, ShortSheet, TornSheet, ForeignMove, Overrun, FalseFigure, Stray, UnknownName, TornTrace, OddRecord, PastLimit, UnknownRoad, BadBans}
 use Rattle.std.specs.Prelude.{Result, Ok, Err}
 use Rattle.replies.specs.Told.{refused_at, succeeded, told_refusal, told_check}
 use Rattle.replies.specs.First.{Test, refused_or, first_of, lowest, NoneFits, Refuses, Tried}
@@ -164,6 +164,7 @@ refusal_number (TornTrace p) = lit≤ tt
 refusal_number (OddRecord p) = lit≤ tt
 refusal_number (PastLimit p) = lit≤ tt
 refusal_number (UnknownRoad p) = lit≤ tt
+refusal_number (BadBans p) = lit≤ tt
 
 refuses : (ts : List Test) (why : Refusal) → first_of ts (succeeded 0 0) ≡ told_refusal why → Refuses ts why
 unfolding first_of

@@ -2,7 +2,7 @@
 use Rattle.std.specs.Prelude.{ℕ, Result, Ok, Err}
 use Rattle.replies.specs.declared.Reply.{Reply}
 use Rattle.replies.specs.declared.Refusal.{Refusal}
-use Rattle.replies.specs.declared.Refusal.TheVariants.{ShortMap, StrangeMap, Oversize, Misfit, BadJunction, BadRoad, BrokenChain, BadLettering, BadOrder, BadRules, BadTrip, Full, NoRoad, ShortSheet, TornSheet, ForeignMove, Overrun, FalseFigure, Stray, UnknownName, TornTrace, OddRecord, PastLimit, UnknownRoad}
+use Rattle.replies.specs.declared.Refusal.TheVariants.{ShortMap, StrangeMap, Oversize, Misfit, BadJunction, BadRoad, BrokenChain, BadLettering, BadOrder, BadRules, BadTrip, Full, NoRoad, ShortSheet, TornSheet, ForeignMove, Overrun, FalseFigure, Stray, UnknownName, TornTrace, OddRecord, PastLimit, UnknownRoad, BadBans}
 use Rattle.replies.specs.declared.Timed.{Timed}
 use Rattle.replies.specs.declared.Plan.{Plan}
 
@@ -39,6 +39,7 @@ told_refusal (TornTrace bytes) = refused_at 21 bytes
 told_refusal (OddRecord index) = refused_at 22 index
 told_refusal (PastLimit index) = refused_at 23 index
 told_refusal (UnknownRoad road) = refused_at 24 road
+told_refusal (BadBans position) = refused_at 25 position
 
 -- an answer: what its success tells, or the refusal
 abbrev pub told : {A : Type 0} → (A → Reply) → Result A Refusal → Reply

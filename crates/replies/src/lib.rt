@@ -35,6 +35,7 @@ pub enum Refusal {
     OddRecord(usize),
     PastLimit(usize),
     UnknownRoad(usize),
+    BadBans(usize),
 }
 
 // What retiming and audit tell of a sheet.
@@ -100,6 +101,7 @@ impl From<Refusal> for Reply {
             Refusal::OddRecord(place) => Reply::refused_at(22, place),
             Refusal::PastLimit(place) => Reply::refused_at(23, place),
             Refusal::UnknownRoad(place) => Reply::refused_at(24, place),
+            Refusal::BadBans(place) => Reply::refused_at(25, place),
         }
     }
 }
