@@ -1,0 +1,2 @@
+pub mod Bans
+pub mod BanList
