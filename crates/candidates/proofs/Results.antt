@@ -17,7 +17,8 @@ use Rattle.states.specs.States.{legal}
 use Rattle.moves.specs.declared.given.OpenRun.{OpenRun}
 use Rattle.moves.specs.OpenRuns.{searched_trip}
 use Rattle.moves.specs.Trip.{Stretch, Trip, none_banned, road_in, roads_in, park_in}
-use Rattle.moves.specs.Moves.{move, leaves, offers, driven, paused, after}
+use Rattle.bans.specs.Bans.{closed_in}
+use Rattle.moves.specs.Moves.{move, leaves, offers, entered_when, driven_from, paused, after}
 use Rattle.moves.specs.Runs.{stretch_in}
 use Rattle.moves.proofs.Stepped.{driven_in}
 use Rattle.labels.specs.declared.Candidate.{Candidate}
@@ -85,16 +86,22 @@ module _ (trip : Trip) (s : State) where
   junction_none zero none = refl
   junction_none (suc c) none = absurd (omega arith)
 
-pub record DriveTime (from clock seconds : ℕ) : Type 0 where
-  pub after : from ≤ clock
-  pub is : clock - from ≡ seconds
+pub record DriveTime (entry clock seconds : ℕ) : Type 0 where
+  pub after : entry ≤ clock
+  pub is : clock - entry ≡ seconds
   pub few : seconds ≤ 1440000
 
 module _ (run : OpenRun) (s : State) where
-  pub result_drive : (cursor : ℕ) → 1 ≤ cursor → cursor ≤ run.about.sizes.roads
-      → driven (stretch_in run.map.now none_banned run.about cursor) s ≡ result_at (searched_trip run) s cursor
+  -- when a road is entered
+  abbrev entered_at : ℕ → ℕ
+  entered_at road = entered_when (closed_in run.closed.now road) s.clock.0
+
+  pub result_drive : (cursor : ℕ) → 1 ≤ cursor → cursor ≤ run.about.sizes.roads → (entry : ℕ) → entry ≡ entered_at cursor
+      → driven_from entry (stretch_in run.map.now none_banned run.about cursor) s ≡ result_at (searched_trip run) s cursor
   unfolding after
-  result_drive cursor low high = driven_in (tied run) s cursor (low, omega (arith, high, roads run, (tied run).roads)) ∙ rw (move_drive (searched_trip run) s cursor (omega (arith, high, roads run)))
+  result_drive cursor low high entry enters =
+      driven_in (tied run) s cursor (low, omega (arith, high, roads run, (tied run).roads)) entry enters
+      ∙ rw (move_drive (searched_trip run) s cursor (omega (arith, high, roads run)))
 
   pub result_pause : (cursor : ℕ) → run.about.sizes.roads < cursor
       → paused (cursor - run.about.sizes.roads + 1) run.about.order.rules s ≡ result_at (searched_trip run) s cursor
@@ -114,21 +121,22 @@ module _ (run : OpenRun) (s : State) where
     pub told_state : {figures : Figures} → figures ≡ reached.figures → record { junction = c.junction; clock = c.clock; figures = figures } ≡ reached
     told_state is = λ i. record { junction = (fit.junction ∙ junction_some _ s c.cursor some) i; clock = record { 0 = told_clock i }; figures = is i }
 
-    -- what a drive adds to the clock is its road time
-    pub drive_time : c.cursor ≤ run.about.sizes.roads → DriveTime s.clock.0 c.clock.0 (road_in (searched_trip run) c.cursor).seconds
-    drive_time high =
-        let top : c.cursor ≤ road_count run.map.now = omega (arith, high, roads run, (tied run).roads) in
-        let road = (sound_map run.map.now run.accepted.mapped).roads c.cursor some top in
-        let stretch = (tied run).road c.cursor some top in
-        let time = told_clock ∙ ap (λ (t : State). t.clock.0) (sym (result_drive c.cursor some high)) in
-        record { after = omega arith; is = rw stretch (omega (arith, time)); few = rw stretch (at_most _ _ road.metres.below road.speed.above) }
+    module _ (high : c.cursor ≤ run.about.sizes.roads) {entry : ℕ} (enters : entry ≡ entered_at c.cursor) where
+      -- what a drive adds to the clock, once its road is entered, is its road time
+      pub drive_time : DriveTime entry c.clock.0 (road_in (searched_trip run) c.cursor).seconds
+      drive_time =
+          let top : c.cursor ≤ road_count run.map.now = omega (arith, high, roads run, (tied run).roads) in
+          let road = (sound_map run.map.now run.accepted.mapped).roads c.cursor some top in
+          let stretch = (tied run).road c.cursor some top in
+          let time = told_clock ∙ ap (λ (t : State). t.clock.0) (sym (result_drive c.cursor some high entry enters)) in
+          record { after = omega arith; is = rw stretch (omega (arith, time)); few = rw stretch (at_most _ _ road.metres.below road.speed.above) }
 
-    -- so the clock tells the figures after it
-    pub told_drive : c.cursor ≤ run.about.sizes.roads → driven_on (c.clock.0 - s.clock.0) s.figures ≡ reached.figures
-    told_drive high =
-        let top : c.cursor ≤ road_count run.map.now = omega (arith, high, roads run, (tied run).roads) in
-        ap (λ (seconds : ℕ). driven_on seconds s.figures) ((drive_time high).is ∙ ap (λ (road : Stretch). road.seconds) ((tied run).road c.cursor some top))
-        ∙ ap (λ (t : State). t.figures) (result_drive c.cursor some high)
+      -- so the two moments tell the figures after it
+      pub told_drive : driven_on (c.clock.0 - entry) s.figures ≡ reached.figures
+      told_drive =
+          let top : c.cursor ≤ road_count run.map.now = omega (arith, high, roads run, (tied run).roads) in
+          ap (λ (seconds : ℕ). driven_on seconds s.figures) (drive_time.is ∙ ap (λ (road : Stretch). road.seconds) ((tied run).road c.cursor some top))
+          ∙ ap (λ (t : State). t.figures) (result_drive c.cursor some high entry enters)
 
     pub told_pause : run.about.sizes.roads < c.cursor → cleared (c.cursor - run.about.sizes.roads + 1) s.figures ≡ reached.figures
     told_pause low = ap (λ (t : State). t.figures) (result_pause c.cursor low)

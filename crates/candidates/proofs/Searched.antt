@@ -1,7 +1,7 @@
 -- What an open run says of the trip that is searched. Assumes nothing.
 use mathlib.Core.Path.{◌≡◌, ◌∙◌, sym}
 use Rattle.moves.specs.declared.given.OpenRun.{OpenRun}
-use Rattle.moves.specs.Bans.{closed_in}
+use Rattle.bans.specs.Bans.{closed_in}
 use Rattle.moves.specs.OpenRuns.{searched_trip}
 use Rattle.moves.specs.Trip.{roads_in, junctions_in}
 use Rattle.moves.specs.Runs.{SoundTrip, Tied}

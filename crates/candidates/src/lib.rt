@@ -5,6 +5,8 @@ ghost use Rattle.std.specs.Prelude.{◌≡◌, true, false, ◌+◌, ◌-◌, �
 ghost use Rattle.driving.specs.Hours.{last_pause};
 ghost use Rattle.driving.specs.Pauses.{pause_number};
 ghost use Rattle.moves.specs.Trip.{roads_in, junctions_in};
+ghost use Rattle.bans.specs.Bans.{closed_in};
+ghost use Rattle.moves.specs.Moves.{entered_when};
 ghost use Rattle.moves.specs.OpenRuns.{searched_trip};
 ghost use Rattle.moves.specs.Runs.{RangeIn};
 ghost use Rattle.states.specs.States.{legal};
@@ -70,21 +72,43 @@ fn pause_under(roads: u32, cursor: u32) -> Pause
     Pause::numbered(cursor - roads + 1)
 }
 
-// The state that a cursor's move leads to, legal or not.
-fn result_at(run: &OpenRun<'_>, state: State, cursor: u32) -> State
+// When the road of this number is entered by a lorry that comes at this moment.
+#[cold]
+fn behind_queue(run: &OpenRun<'_>, clock: Clock, road: u32) -> Clock
+    requires { clock.0 ≤ 2000000000 }
+    ensures { (result.0 ≡ entered_when (closed_in run.now.closed.now road) clock.0) × (result.0 ≤ 2000079200) }
+{
+    moves::entry_time(bans::is_closed(run.closed, road), clock)
+}
+
+// The same. Where no road is banned nothing is asked.
+#[tactic(auto, using(bans::proofs::Marking::none_closed))]
+fn entry_at(run: &OpenRun<'_>, clock: Clock, road: u32) -> Clock
+    requires { clock.0 ≤ 2000000000 }
+    ensures { (result.0 ≡ entered_when (closed_in run.now.closed.now road) clock.0) × (result.0 ≤ 2000079200) }
+{
+    if run.closed.is_empty() {
+        return clock;
+    }
+    behind_queue(run, clock, road)
+}
+
+// The state that a cursor's move leads to, legal or not. A road is entered at this moment; a pause takes no notice of it.
+fn result_at(run: &OpenRun<'_>, state: State, entry: Clock, cursor: u32) -> State
     requires range_in { RangeIn (searched_trip run.now) state }
+    requires enters { (entry.0 ≡ entered_when (closed_in run.now.closed.now cursor) state.clock.0) × (entry.0 ≤ 2000079200) }
     requires le_cursor { (1 ≤ cursor) × (cursor < roads_in (searched_trip run.now) + last_pause) }
     ensures { result ≡ result_at (searched_trip run.now) state cursor }
 {
     let roads = run.about.sizes.roads;
     if cursor <= roads {
-        return moves::after_drive(run, state, cursor);
+        return moves::after_drive(run, state, entry, cursor);
     }
     moves::after_pause(run.about, state, pause_under(roads, cursor))
 }
 
-// The same of a candidate, which knows its junction and its clock: that says how long the move takes,
-// so that the map is not read.
+// The same of a candidate, which knows its junction and its clock: that and the moment of entry say how long a drive
+// takes, so that the map is not read.
 pub fn result_by(run: &OpenRun<'_>, state: State, c: Candidate) -> State
     requires range_in { RangeIn (searched_trip run.now) state }
     requires fitting { Fitting (searched_trip run.now) state c × (1 ≤ c.cursor) }
@@ -92,7 +116,8 @@ pub fn result_by(run: &OpenRun<'_>, state: State, c: Candidate) -> State
 {
     let roads = run.about.sizes.roads;
     let figures = if c.cursor <= roads {
-        driving::driven(state.figures, c.clock.0 - state.clock.0)
+        let entry = entry_at(run, state.clock, c.cursor);
+        driving::driven(state.figures, c.clock.0 - entry.0)
     } else {
         driving::cleared(state.figures, pause_under(roads, c.cursor))
     };
@@ -226,8 +251,13 @@ fn leads(
     if before < by.label {
         return false;
     }
+    // A banned road of a label before is passed over: the gate would cost more here than the turn that it spares.
+    if bans::is_closed(run.closed, by.cursor) {
+        return false;
+    }
     let label = labels::read_label(labels.words, by.label);
-    allowed(run, label, by.cursor) && states::covers(result_at(run, label, by.cursor), reached)
+    allowed(run, label, by.cursor)
+        && states::covers(result_at(run, label, label.clock, by.cursor), reached)
 }
 
 // Whether a label before has a successor that covers this one, where the last at the junction or a hint
@@ -282,7 +312,8 @@ fn weigh(
     if !allowed(run, state, cursor) {
         return best;
     }
-    let reached = result_at(run, state, cursor);
+    let entry = entry_at(run, state.clock, cursor);
+    let reached = result_at(run, state, entry, cursor);
     if best.more && best.clock < reached.clock
         || !states::is_legal(run.about.order, reached)
         || states::ranks_no_higher(reached, search.bound)

@@ -15,16 +15,17 @@ use Rattle.replies.specs.declared.Reply.{Reply}
 use Rattle.replies.specs.First.{Test, ◌at◌, first_of, NoneFits}
 use Rattle.replies.specs.Told.{succeeded, told_timing, told_plan}
 use Rattle.replies.proofs.First.{none_of_both, none_at_all}
-use Rattle.roadmap.specs.Format.{junction_count}
+use Rattle.roadmap.specs.Format.{junction_count, road_count}
 use Rattle.mapcheck.specs.MapCheck.{map_tests}
 use Rattle.driving.specs.Order.{order_tests}
+use Rattle.bans.specs.BanList.{ban_tests}
 use Rattle.states.specs.declared.State.{State}
 use Rattle.states.proofs.Compared.{covers_clock}
 use Rattle.moves.specs.declared.Move.{Move}
 use Rattle.moves.specs.Trip.{Trip, trip_of}
 use Rattle.moves.specs.Moves.{after}
 use Rattle.moves.specs.Given.{Given, order_from, trip_from}
-use Rattle.moves.specs.RunTests.{run_tests}
+use Rattle.moves.specs.RunTests.{opening_tests, run_tests}
 use Rattle.sheets.specs.declared.Heading.{Heading}
 use Rattle.sheets.specs.declared.Row.{Row}
 use Rattle.sheets.specs.Sheet.{short_sheet}
@@ -51,7 +52,10 @@ walk_leads tb ta k a {b} (go {m = m} {ms = ms} offered lawful rest) =
 
 -- the tests of an accepted run
 pub none_run : {given : Given} → AcceptedRun given → NoneFits (run_tests given)
-none_run {given} accepted = none_of_both (map_tests given.map) (order_tests (junction_count given.map) given.order) accepted.mapped accepted.ordered
+none_run {given} accepted =
+    none_of_both (opening_tests given.map given.order) (ban_tests (road_count given.map) given.bans)
+    (none_of_both (map_tests given.map) (order_tests (junction_count given.map) given.order) accepted.mapped accepted.ordered)
+    accepted.listed
 
 module _ {a : Given} {words sheet sheet' : List ℕ} {answer : Result Plan Refusal} (w : Wrote a words sheet sheet' answer)
     {b : Given} (accepted-b : AcceptedRun b)

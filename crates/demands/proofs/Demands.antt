@@ -17,10 +17,10 @@ use Rattle.replies.specs.declared.Refusal.{Refusal}
 use Rattle.replies.specs.declared.Timed.{Timed}
 use Rattle.replies.specs.declared.Plan.{Plan}
 use Rattle.replies.specs.declared.Reply.{Reply}
-use Rattle.replies.specs.First.{◌at◌, first_of}
+use Rattle.replies.specs.First.{Test, ◌at◌, first_of}
 use Rattle.replies.specs.Told.{succeeded, refused_at, told_check, told_name, told_timing, told_plan, told_replaying}
 use Rattle.booleans.specs.Pick.{pick}
-use Rattle.roadmap.specs.Format.{name_length, road_from, road_to}
+use Rattle.roadmap.specs.Format.{road_count, name_length, road_from, road_to}
 use Rattle.mapcheck.specs.MapCheck.{map_tests, chaining_tests, AcceptedMap}
 use Rattle.mapcheck.specs.Lettered.{bad_word}
 use Rattle.striking.specs.Striking.{to_at, struck, striking_tests, striking_reply, after_striking, Striking}
@@ -29,7 +29,8 @@ use Rattle.mapedit.specs.Chaining.{chained, chaining_reply, after_chaining, Chai
 use Rattle.driving.specs.declared.Figures.{Figures}
 use Rattle.driving.specs.declared.Rules.{Rules}
 use Rattle.driving.specs.Accepted.{FiguresRise}
-use Rattle.driving.specs.Order.{bad_figures, order_tests}
+use Rattle.driving.specs.Order.{bad_figures}
+use Rattle.bans.specs.BanList.{ban_tests}
 use Rattle.replay.specs.Trace.{record_count, records_of}
 use Rattle.replay.specs.Replay.{up_to_date, torn_trace, replay_tests, Replayed}
 use Rattle.replay.specs.InTurn.{none_goes_on, behind}
@@ -37,12 +38,12 @@ use Rattle.states.specs.declared.State.{State}
 use Rattle.moves.specs.declared.Move.{Move}
 use Rattle.moves.specs.Trip.{Trip, trip_of}
 use Rattle.moves.specs.Given.{Given, on_map, order_from, trip_from}
-use Rattle.moves.specs.RunTests.{run_tests}
+use Rattle.moves.specs.RunTests.{opening_tests, order_check_tests}
 use Rattle.sheets.specs.declared.Heading.{Heading}
 use Rattle.sheets.specs.Sheet.{heading_of, sheet_needed}
 use Rattle.retiming.specs.Retiming.{moves_on, timing, retiming_tests, audit_tests, audit_reply, Retimed}
 use Rattle.theory.specs.Lists.{memb}
-use Rattle.journeys.specs.Journeys.{Reached, Journey, total_seconds}
+use Rattle.journeys.specs.Journeys.{start_in, Reached, Journey, total_seconds, total_queues}
 use Rattle.states.specs.States.{ranks_no_higher}
 use Rattle.journeys.specs.Labels.{label_count}
 use Rattle.journeys.specs.Plan.{bytes_needed}
@@ -84,9 +85,10 @@ use Rattle.demands.proofs.Struck.{told_struck, leads_back, length_struck, struck
 pub map_check_replies : (map : List ℕ) (answer : Result (Unit {0}) Refusal) → told_check answer ≡ first_of (map_tests map) (succeeded 0 0) → RepliesBy (map_tests map) (told_check answer)
 map_check_replies map answer told = replies_by (map_tests map) _ refl tt told
 
-pub order_check_replies : (junctions : ℕ) (order : List ℕ) (answer : Result (Unit {0}) Refusal) → told_check answer ≡ first_of (order_tests junctions order) (succeeded 0 0) →
-    RepliesBy (order_tests junctions order) (told_check answer)
-order_check_replies junctions order answer told = replies_by (order_tests junctions order) _ refl tt told
+-- document 02, P8: "Refused: 25 bad ban list, .. after 11 and 24."
+pub order_check_replies : (junctions roads : ℕ) (order bans : List ℕ) (answer : Result (Unit {0}) Refusal) → told_check answer ≡ first_of (order_check_tests junctions roads order bans) (succeeded 0 0) →
+    RepliesBy (order_check_tests junctions roads order bans) (told_check answer)
+order_check_replies junctions roads order bans answer told = replies_by (order_check_tests junctions roads order bans) _ refl tt told
 
 pub name_replies : (map : List ℕ) (junction : ℕ) (answer : Result ℕ Refusal) → told_name answer ≡ name_reply map junction →
     RepliesBy (map_tests map ++ (20 at unknown_name map junction) ∷ []) (told_name answer)
@@ -127,8 +129,9 @@ module _ (given : Given) (sheet : List ℕ) (answer : Result Timed Refusal) (tol
       let passed = rw told at done in
       (reached_by given sheet passed, audited_holds given sheet passed, ap (λ (r : Reply). r.arrival) (told ∙ audited_told given sheet passed))
 
-  -- "Arrival less departure is the sum of its road times, breaks and rests." A part "counts as a break" (document 02, P5), and a weekly rest as a rest (P7).
-  pub audit_seconds : (told_timing answer).arrival ≡ (order_from given).departure.0 + total_seconds (trip_from given) (moves_read sheet)
+  -- "Arrival less departure is the sum of its road times, breaks and rests." A part "counts as a break" (document 02, P5), and a weekly rest as a
+  -- rest (P7); "arrival less departure gains the queues" (P8)
+  pub audit_seconds : (told_timing answer).arrival ≡ (order_from given).departure.0 + (total_seconds (trip_from given) (moves_read sheet) + total_queues (trip_from given) (start_in (trip_from given)) (moves_read sheet))
   unfolding trip_of
   audit_seconds = audit_holds.2 ∙ leads_clock (trip_from given) audit_holds.1.journey.leads
 
@@ -248,8 +251,8 @@ module _ {given : Given} {sheet out out' : List ℕ} {answer : Result Timed Refu
     pub retiming_keeps : drop (sheet_needed (moves_on out')) out' ≡ drop (sheet_needed (moves_on out')) out
     retiming_keeps = rest_retimed retimed done
 
-    -- "Arrival less departure is the sum of its road times, breaks and rests." A part "counts as a break" (document 02, P5), and a weekly rest as a rest (P7).
-    pub retiming_seconds : (told_timing answer).arrival ≡ (order_from given).departure.0 + total_seconds (trip_from given) (moves_read out')
+    -- arrival less departure, as of a plan
+    pub retiming_seconds : (told_timing answer).arrival ≡ (order_from given).departure.0 + (total_seconds (trip_from given) (moves_read out') + total_queues (trip_from given) (start_in (trip_from given)) (moves_read out'))
     unfolding trip_of
     retiming_seconds = retiming_writes.2 ∙ leads_clock (trip_from given) retiming_writes.1.journey.leads
 
@@ -295,8 +298,9 @@ module _ {given : Given} {words words' sheet sheet' : List ℕ} {answer : Result
   pub plan_obeys : Plans answer → (t : State) × HoldsJourney trip sheet' t × ((told_plan answer).arrival ≡ t.clock.0)
   plan_obeys plans = let w = wrote_plan plans in (w.state, holds_journey w, ap (λ (r : Reply). r.arrival) w.told)
 
-  -- "Arrival less departure is the sum of its road times, breaks and rests." A part "counts as a break" (document 02, P5), and a weekly rest as a rest (P7).
-  pub plan_seconds : Plans answer → (told_plan answer).arrival ≡ (order_from given).departure.0 + total_seconds trip (moves_read sheet')
+  -- "Arrival less departure is the sum of its road times, breaks and rests." A part "counts as a break" (document 02, P5), and a weekly rest as a
+  -- rest (P7); "arrival less departure gains the queues" (P8)
+  pub plan_seconds : Plans answer → (told_plan answer).arrival ≡ (order_from given).departure.0 + (total_seconds trip (moves_read sheet') + total_queues trip (start_in trip) (moves_read sheet'))
   unfolding trip_of
   plan_seconds plans = (plan_obeys plans).2 ∙ leads_clock trip (plan_obeys plans).1.journey.leads
 
@@ -350,7 +354,8 @@ module _ {given : Given} {words words' sheet sheet' : List ℕ} {answer : Result
 -- "Take any two planning runs A and B with accepted maps and orders that share the junctions, the numbers and ends of the roads, source, target,
 -- departure and latest arrival. Suppose that in B no road takes longer, no limit is lower, no break or rest is longer, no starting figure is
 -- higher, and each car park of A is one." Document 02, P5: "where A has a split so has B, with parts no longer than A's." P7: "week limit is one
--- of the limits, week figure one of the starting figures, and B's weekly rest is no longer than A's." "Whenever A plans,"
+-- of the limits, week figure one of the starting figures, and B's weekly rest is no longer than A's." P8: "Two compared runs share the clock, and
+-- B's banned roads are among A's." "Whenever A plans,"
 module _ {a b : Given} (accepted-a : AcceptedRun a) (accepted-b : AcceptedRun b) (easier : EasierRun b a)
     {wordsA wordsA' sheetA sheetA' : List ℕ} {answerA : Result Plan Refusal} (run-a : Planned a wordsA wordsA' sheetA sheetA' answerA) (plans-a : Plans answerA) where
   under_b : Afresh b sheetA' answerA
@@ -399,9 +404,14 @@ any_label_space {given} {sheet = sheet} run₁ run₂ not-full₁ not-full₂ =
 -- PREVIEW OF A CLOSURE. Document 02, P6.
 
 module _ {given : Given} {road : ℕ} {words words' sheet sheet' : List ℕ} {answer : Result Plan Refusal} (run : Previewed given road words words' sheet sheet' answer) where
-  -- the refusals in order: 1 to 11, "24 unknown road .. after 11 in the preview", then 12 to 14 of the map so struck
-  pub preview_replies : RepliesBy (closure_tests given road ++ search_tests (trip_from (struck_given given road)) (labels_that_fit (length words)) (length sheet)) (told_plan answer)
-  preview_replies = replies_by (closure_tests given road ++ search_tests (trip_from (struck_given given road)) (labels_that_fit (length words)) (length sheet)) _ refl tt (run.reply ∙ preview_listed given road words sheet)
+  -- the refusals in order: 1 to 11, "24 unknown road .. after 11 in the preview", 25 "after 11 and 24" (P8), then 12 to 14 of the map so struck
+  abbrev preview_tests : List Test
+  preview_tests =
+      closure_tests given road
+      ++ (ban_tests (road_count given.map) given.bans ++ search_tests (trip_from (struck_given given road)) (labels_that_fit (length words)) (length sheet))
+
+  pub preview_replies : RepliesBy preview_tests (told_plan answer)
+  preview_replies = replies_by preview_tests _ refl tt (run.reply ∙ preview_listed given road words sheet)
 
   -- a refusal leaves the sheet's bytes untouched, and one before the search every word of the label space
   pub preview_leaves : ¬ Plans answer → sheet' ≡ sheet
@@ -427,7 +437,7 @@ module _ {given : Given} {road : ℕ} {words words' sheet sheet' : List ℕ} {an
         )
 
     -- and where striking is refused so is the preview, an order's faults before the road's
-    pub preview_refused : ¬ ((told_check check).number ≡ 0) → told_plan answer ≡ first_of (run_tests given) (told_check check)
+    pub preview_refused : ¬ ((told_check check).number ≡ 0) → told_plan answer ≡ first_of (opening_tests given.map given.order) (told_check check)
     preview_refused refused = as_refused striking refused run
 
   -- beside planning on the lent map, with any label space and sheet: a closure makes no plan earlier, and opens no road

@@ -1,4 +1,4 @@
--- What planning says of an accepted map and order. Assumes nothing.
+-- What planning says of an accepted run. Assumes nothing.
 use mathlib.Core.Path.{◌≡◌, refl, sym, ap, ◌∙◌}
 use mathlib.Core.Bool.{Bool, true, false}
 use mathlib.Core.List.{List}
@@ -17,15 +17,16 @@ use Rattle.replies.specs.declared.Reply.{Reply}
 use Rattle.replies.specs.First.{Test, NoneFits}
 use Rattle.replies.specs.Told.{refused_at, told_plan}
 use Rattle.replies.proofs.First.{none_told, none_before, none_behind}
-use Rattle.roadmap.specs.Format.{junction_count}
+use Rattle.roadmap.specs.Format.{junction_count, road_count}
 use Rattle.mapcheck.specs.MapCheck.{map_tests}
 use Rattle.driving.specs.Order.{order_tests}
+use Rattle.bans.specs.BanList.{ban_tests}
 use Rattle.theory.specs.Lists.{memb}
 use Rattle.states.specs.declared.State.{State}
 use Rattle.moves.specs.declared.Move.{Move}
 use Rattle.moves.specs.Trip.{Trip}
 use Rattle.moves.specs.Given.{Given, trip_from}
-use Rattle.moves.specs.RunTests.{run_tests}
+use Rattle.moves.specs.RunTests.{opening_tests, run_tests}
 use Rattle.moves.proofs.Rising.{SoundTrip}
 use Rattle.journeys.specs.Journeys.{Journey}
 use Rattle.journeys.specs.Labels.{answer_in, label_count}
@@ -44,9 +45,15 @@ early number = memb eqb number before_search
 pub run_accepted : {given : Given} → NoneFits (run_tests given) → AcceptedRun given
 run_accepted {given} all =
     let orders : List Test = order_tests (junction_count given.map) given.order in
-    record { mapped = none_before (map_tests given.map) orders all; ordered = none_behind (map_tests given.map) orders all }
+    let lists : List Test = ban_tests (road_count given.map) given.bans in
+    let opened = none_before (opening_tests given.map given.order) lists all in
+    record {
+      mapped = none_before (map_tests given.map) orders opened;
+      ordered = none_behind (map_tests given.map) orders opened;
+      listed = none_behind (opening_tests given.map given.order) lists all;
+    }
 
--- a reply that follows a search says that the map and the order are accepted
+-- a reply that follows a search says that the map, the order and the list are accepted
 pub accepted_by : {given : Given} {words words' sheet sheet' : List ℕ} {answer : Result Plan Refusal} → Planned given words words' sheet sheet' answer →
     early (told_plan answer).number ≡ false → AcceptedRun given
 unfolding memb plan_reply
@@ -68,7 +75,7 @@ module _ {given : Given} {words words' sheet sheet' : List ℕ} {answer : Result
 
   -- what is told is what the search tells
   pub told : told_plan answer ≡ search_reply trip fit (length sheet)
-  told = run.reply ∙ reply_accepted given fit (length sheet) accepted.mapped accepted.ordered
+  told = run.reply ∙ reply_accepted given fit (length sheet) accepted.mapped accepted.ordered accepted.listed
 
   number_told : (told_plan answer).number ≡ (search_reply trip fit (length sheet)).number
   number_told = ap (λ (r : Reply). r.number) told

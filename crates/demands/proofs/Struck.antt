@@ -1,7 +1,7 @@
 -- What striking leaves of a map that it does not refuse, and what the preview says beside planning. Assumes nothing.
 use mathlib.Core.Path.{◌≡◌, refl, sym, ap, subst, ◌∙◌}
 use mathlib.Core.Bool.{Bool, true, false}
-use mathlib.Core.List.{List, [], ◌∷◌}
+use mathlib.Core.List.{List, [], ◌∷◌, ◌++◌}
 use Prim.Native.Nat.{ℕ, ◌≤◌}
 use native.Mathlib.Omega.{arith}
 use lib.ListN.{length, get_or}
@@ -9,9 +9,9 @@ use Rattle.std.specs.Prelude.{Result, Ok, Err}
 use Rattle.replies.specs.declared.Refusal.{Refusal}
 use Rattle.replies.specs.declared.Plan.{Plan}
 use Rattle.replies.specs.declared.Reply.{Reply}
-use Rattle.replies.specs.First.{◌at◌, first_of, NoneFits}
+use Rattle.replies.specs.First.{Test, ◌at◌, first_of, NoneFits}
 use Rattle.replies.specs.Told.{succeeded, told_check, told_plan}
-use Rattle.replies.proofs.First.{none_fits, none_fitted, first_append, first_same, none_before, none_behind, refusal_number}
+use Rattle.replies.proofs.First.{none_fits, none_fitted, none_of_both, first_append, first_same, none_before, none_behind, refusal_number}
 use Rattle.roadmap.specs.Format.{junction_count, road_count, length_needed, road_from, road_to}
 use Rattle.mapcheck.specs.MapCheck.{outside, map_tests, AcceptedMap}
 use Rattle.mapcheck.proofs.Counts.{Within, within, placed_none}
@@ -20,17 +20,20 @@ use Rattle.striking.specs.Striking.{to_at, struck, unknown_road, striking_tests,
 use Rattle.striking.proofs.Struck.{struck_length, struck_byte, struck_to}
 use Rattle.striking.proofs.Passes.{struck_passes}
 use Rattle.driving.specs.Order.{order_tests}
+use Rattle.bans.specs.BanList.{ban_tests}
 use Rattle.states.specs.declared.State.{State}
 use Rattle.states.proofs.Compared.{covers_clock}
 use Rattle.moves.specs.declared.Move.{Move}
 use Rattle.moves.specs.Trip.{Trip}
 use Rattle.moves.specs.Given.{Given, on_map, trip_from}
-use Rattle.moves.specs.RunTests.{run_tests}
+use Rattle.moves.specs.RunTests.{opening_tests}
+use Rattle.states.specs.LabelSpace.{labels_that_fit}
 use Rattle.journeys.specs.Journeys.{Journey}
+use Rattle.journeys.specs.Planning.{search_tests, planned}
 use Rattle.journeys.proofs.Struck.{struck_journey}
 use Rattle.planner.specs.Planned.{Planned}
 use Rattle.planner.specs.Preview.{struck_given, closure_tests, preview_reply, Previewed}
-use Rattle.planner.proofs.Previewing.{struck_from, struck_run, preview_plans}
+use Rattle.planner.proofs.Previewing.{struck_from, struck_run, preview_plans, preview_listed}
 use Rattle.demands.specs.LinkBytes.{InWord}
 use Rattle.demands.specs.Runs.{AcceptedRun, Plans, SaysNoRoad, moves_read}
 use Rattle.demands.proofs.Chained.{apart}
@@ -91,12 +94,12 @@ as_planned {given} {words = words} {words' = words'} {sheet = sheet} {sheet' = s
 -- Where striking is refused the preview is refused likewise, an order's faults before the road's.
 pub as_refused : {given : Given} {map' : List ℕ} {road : ℕ} {words words' sheet sheet' : List ℕ} {answer : Result (Unit {0}) Refusal} {told : Result Plan Refusal}
     → Striking given.map road map' answer → ¬ ((told_check answer).number ≡ 0) → Previewed given road words words' sheet sheet' told
-    → told_plan told ≡ first_of (run_tests given) (told_check answer)
+    → told_plan told ≡ first_of (opening_tests given.map given.order) (told_check answer)
 unfolding preview_reply striking_reply first_of
 as_refused {given} {map'} {road} {answer = answer} run refused previewed =
     previewed.reply
-    ∙ first_append (run_tests given) ((24 at unknown_road given.map road) ∷ []) _
-    ∙ first_same (run_tests given)
+    ∙ first_append (opening_tests given.map given.order) ((24 at unknown_road given.map road) ∷ []) _
+    ∙ first_same (opening_tests given.map given.order)
     (λ none.
     let struck-reply = run.reply ∙ none_fits (map_tests given.map) ((24 at unknown_road given.map road) ∷ []) (succeeded 0 0) (none_before (map_tests given.map) (order_tests (junction_count given.map) given.order) none) in
     by _ (outside 1 (road_count given.map) road) refl struck-reply)
@@ -112,17 +115,32 @@ module _ {given : Given} {road : ℕ} {words words' sheet sheet' : List ℕ} {an
   unfolding preview_reply
   none_closed = none_fitted (closure_tests given road) _ tt (sym (ap (λ (r : Reply). r.number) run.reply) ∙ plans)
 
-  none_run : NoneFits (run_tests given)
-  none_run = none_before (run_tests given) ((24 at unknown_road given.map road) ∷ []) none_closed
+  opened : NoneFits (opening_tests given.map given.order)
+  opened = none_before (opening_tests given.map given.order) ((24 at unknown_road given.map road) ∷ []) none_closed
 
   inside : outside 1 (road_count given.map) road ≡ false
-  inside = placed_none road (none_behind (run_tests given) ((24 at unknown_road given.map road) ∷ []) none_closed).0
+  inside = placed_none road (none_behind (opening_tests given.map given.order) ((24 at unknown_road given.map road) ∷ []) none_closed).0
+
+  abbrev lists : List Test
+  lists = ban_tests (road_count given.map) given.bans
+
+  abbrev searches : List Test
+  searches = search_tests (trip_from (struck_given given road)) (labels_that_fit (length words)) (length sheet)
+
+  -- none of the whole list of refusals fits, 25 among them
+  none_listed : NoneFits (closure_tests given road ++ (lists ++ searches))
+  none_listed =
+      none_fitted (closure_tests given road ++ (lists ++ searches)) (planned (trip_from (struck_given given road))) tt
+      (sym (ap (λ (r : Reply). r.number) (run.reply ∙ preview_listed given road words sheet)) ∙ plans)
+
+  listed : NoneFits lists
+  listed = none_before lists searches (none_behind (closure_tests given road) (lists ++ searches) none_listed)
 
   lent_accepted : AcceptedRun given
-  lent_accepted = run_accepted none_run
+  lent_accepted = run_accepted (none_of_both (opening_tests given.map given.order) lists opened listed)
 
   struck_accepted : AcceptedRun (struck_given given road)
-  struck_accepted = run_accepted (struck_run given road none_run inside)
+  struck_accepted = run_accepted (struck_run given road opened inside listed)
 
   wrote_struck : Wrote (struck_given given road) words sheet sheet' answer
   wrote_struck = wrote struck_accepted (preview_plans given road words sheet lent_accepted.mapped inside run) plans
@@ -133,7 +151,7 @@ module _ {given : Given} {road : ℕ} {words words' sheet sheet' : List ℕ} {an
       let held = (holds_journey wrote_struck).journey in
       let found =
       struck_journey (trip_from given) road
-      (subst (λ (t : Trip). Journey t (moves_read sheet') wrote_struck.state) (sym (struck_from given road none_run inside refl)) held) in
+      (subst (λ (t : Trip). Journey t (moves_read sheet') wrote_struck.state) (sym (struck_from given road opened inside refl)) held) in
       (found.0, found.1, found.2, omega (arith, covers_clock _ _ found.3, ap (λ (r : Reply). r.arrival) wrote_struck.told))
 
   -- planning on the lent map

@@ -1,14 +1,15 @@
 -- Runs of planning: accepted, what they say, the journey that a sheet holds, and moves timed afresh.
--- Document 01, "Plan sheet", "Two runs compared". Assumes nothing.
+-- Document 01, "Plan sheet", "Two runs compared", and document 02, P8. Assumes nothing.
 use Rattle.std.specs.Prelude.{◌≡◌, List, map, ℕ, ◌≤◌, length, take, Result}
 use Rattle.replies.specs.declared.Refusal.{Refusal}
 use Rattle.replies.specs.declared.Timed.{Timed}
 use Rattle.replies.specs.declared.Plan.{Plan}
 use Rattle.replies.specs.First.{NoneFits}
 use Rattle.replies.specs.Told.{told_plan}
-use Rattle.roadmap.specs.Format.{junction_count}
+use Rattle.roadmap.specs.Format.{junction_count, road_count}
 use Rattle.mapcheck.specs.MapCheck.{AcceptedMap}
 use Rattle.driving.specs.Order.{order_tests}
+use Rattle.bans.specs.BanList.{ban_tests}
 use Rattle.states.specs.declared.State.{State}
 use Rattle.moves.specs.declared.Move.{Move}
 use Rattle.moves.specs.Trip.{Trip}
@@ -19,10 +20,12 @@ use Rattle.retiming.specs.Retiming.{moves_on, Retimed}
 use Rattle.journeys.specs.Journeys.{start_in, Journey}
 use Rattle.journeys.specs.Plan.{rows_from}
 
--- a map is accepted when none of refusals 1 to 8 fits it, an order when none of 9 to 11 fits it with its map
+-- a map is accepted when none of refusals 1 to 8 fits it, an order when none of 9 to 11 fits it with its map; wherever an order is called
+-- accepted, its ban list passes too (document 02, P8)
 pub record AcceptedRun (given : Given) : Type 0 where
   pub mapped : AcceptedMap given.map
   pub ordered : NoneFits (order_tests (junction_count given.map) given.order)
+  pub listed : NoneFits (ban_tests (road_count given.map) given.bans)
 
 -- a run plans when its reply's number is 0
 abbrev pub Plans : Result Plan Refusal → Type 0
@@ -53,7 +56,7 @@ pub record HoldsJourney (trip : Trip) (sheet : List ℕ) (t : State) : Type 0 wh
 abbrev pub header_and_records : List ℕ → List ℕ
 header_and_records sheet = take (sheet_needed (moves_on sheet)) sheet
 
--- a sheet's moves are timed afresh by retiming its header and its M records, with this map and order, into any sheet at least as long
+-- a sheet's moves are timed afresh by retiming its header and its M records, with this map, order and ban list, into any sheet at least as long
 pub record TimedAfresh (given : Given) (sheet out out' : List ℕ) (answer : Result Timed Refusal) : Type 0 where
   pub long : length (header_and_records sheet) ≤ length out
   pub retimed : Retimed given (header_and_records sheet) out out' answer

@@ -20,10 +20,11 @@ use Rattle.moves.specs.Runs.{InRange}
 use Rattle.driving.specs.Accepted.{FiguresRise}
 use Rattle.driving.proofs.Hours.{sound_rise}
 use Rattle.moves.proofs.Rising.{SoundTrip, clock_after, after_rise, range_after, start_range}
+use Rattle.moves.proofs.Entering.{begins_from}
 use Rattle.moves.proofs.Monotone.{eased_move}
 use Rattle.theory.specs.States.{Reach, start, step}
 use Rattle.theory.proofs.Lists.{keep_from, keep_head, keep_tail}
-use Rattle.journeys.specs.Journeys.{Leads, stay, go, Reached, timed, total_seconds, results, succs}
+use Rattle.journeys.specs.Journeys.{Leads, stay, go, Reached, timed, total_seconds, total_queues, results, succs}
 
 module _ (trip : Trip) where
   -- one list of moves after another
@@ -72,11 +73,12 @@ module _ (trip : Trip) where
   pub leads_one : {s t u : State} {ms : List Move} → Leads trip s ms t → Leads trip s ms u → t ≡ u
   leads_one p q = let a = leads_timed p in let b = leads_timed q in cc
 
-  -- arrival less departure is the sum of road times, breaks and rests, a part of a break counting as a break and a weekly rest as a rest
-  pub leads_clock : {s t : State} {ms : List Move} → Leads trip s ms t → t.clock.0 ≡ s.clock.0 + total_seconds trip ms
-  unfolding total_seconds
+  -- arrival less departure is the sum of road times, breaks and rests, a part of a break counting as a break and a weekly rest as a rest, and of
+  -- the queues
+  pub leads_clock : {s t : State} {ms : List Move} → Leads trip s ms t → t.clock.0 ≡ s.clock.0 + (total_seconds trip ms + total_queues trip s ms)
+  unfolding total_seconds total_queues
   leads_clock {s} stay = omega arith
-  leads_clock {s} (go {m = m} o l p) = omega (arith, leads_clock p, clock_after trip s m)
+  leads_clock {s} (go {m = m} o l p) = omega (arith, leads_clock p, clock_after trip s m, begins_from trip s.clock.0 m)
 
   -- what one move leads to
   pub record OneMove (s t : State) : Type 0 where

@@ -14,15 +14,17 @@ use Rattle.replies.specs.declared.Reply.{Reply}
 use Rattle.replies.specs.Told.{succeeded, refused_at}
 use Rattle.replies.specs.First.{Test, ◌at◌, refused_or, first_of, NoneFits}
 use Rattle.replies.proofs.First.{none_fits, none_of_both}
-use Rattle.roadmap.specs.Format.{junction_count}
+use Rattle.roadmap.specs.Format.{junction_count, road_count}
 use Rattle.mapcheck.specs.MapCheck.{map_tests, AcceptedMap}
 use Rattle.driving.specs.Order.{order_tests}
 use Rattle.driving.proofs.Accepted.{order_accepted}
 use Rattle.states.specs.declared.State.{State}
 use Rattle.moves.specs.declared.Move.{Move}
-use Rattle.moves.specs.Trip.{Trip, none_banned}
+use Rattle.bans.specs.Bans.{listed_in}
+use Rattle.bans.specs.BanList.{ban_tests}
+use Rattle.moves.specs.Trip.{Trip}
 use Rattle.moves.specs.Given.{Given, order_from, trip_from}
-use Rattle.moves.specs.RunTests.{run_tests}
+use Rattle.moves.specs.RunTests.{opening_tests, run_tests}
 use Rattle.moves.proofs.Rising.{SoundTrip, sound_trip}
 use Rattle.sheets.specs.Sheet.{short_sheet}
 use Rattle.journeys.specs.Journeys.{Journey}
@@ -35,16 +37,18 @@ use Rattle.journeys.proofs.Plan.{plan_journey, plan_short}
 
 -- Bytes.
 
--- an accepted map and order make a sound run
+-- an accepted map and order make a sound run, whichever roads are banned
 pub accepted_sound : (given : Given) → AcceptedMap given.map → NoneFits (order_tests (junction_count given.map) given.order) → SoundTrip (trip_from given)
-accepted_sound given mapped ordered = sound_trip given.map none_banned (order_from given) mapped (order_accepted (junction_count given.map) given.order ordered)
+accepted_sound given mapped ordered = sound_trip given.map (listed_in given.bans) (order_from given) mapped (order_accepted (junction_count given.map) given.order ordered)
 
 module _ (given : Given) (fit sheet : ℕ) where
-  -- of both accepted, what the search says
-  pub reply_accepted : AcceptedMap given.map → NoneFits (order_tests (junction_count given.map) given.order) → plan_reply given fit sheet ≡ search_reply (trip_from given) fit sheet
+  -- of a run whose map, order and list are accepted, what the search says
+  pub reply_accepted : AcceptedMap given.map → NoneFits (order_tests (junction_count given.map) given.order) → NoneFits (ban_tests (road_count given.map) given.bans)
+      → plan_reply given fit sheet ≡ search_reply (trip_from given) fit sheet
   unfolding plan_reply search_reply
-  reply_accepted mapped ordered =
-      none_fits (run_tests given) (search_tests (trip_from given) fit sheet) (planned (trip_from given)) (none_of_both (map_tests given.map) (order_tests (junction_count given.map) given.order) mapped ordered)
+  reply_accepted mapped ordered listed =
+      none_fits (run_tests given) (search_tests (trip_from given) fit sheet) (planned (trip_from given))
+      (none_of_both (opening_tests given.map given.order) (ban_tests (road_count given.map) given.bans) (none_of_both (map_tests given.map) (order_tests (junction_count given.map) given.order) mapped ordered) listed)
 
 -- the two lists differ in one test, of which only the place may differ: where neither says its number, they say the same
 same_but_one : (before rest : List Test) (k : ℕ) (p q : Option ℕ) (success : Reply)

@@ -18,7 +18,8 @@ use Rattle.theory.proofs.Figures.{above_more, above_both, above_self}
 use Rattle.states.specs.declared.State.{State}
 use Rattle.states.specs.States.{covers}
 use Rattle.states.proofs.Compared.{covers_made}
-use Rattle.moves.specs.Trip.{Stretch, Trip, stretch_of, none_banned, trip_of, road_in, park_in, roads_in}
+use Rattle.bans.specs.Bans.{listed_in}
+use Rattle.moves.specs.Trip.{Stretch, Trip, stretch_of, trip_of, road_in, park_in, roads_in}
 use Rattle.moves.specs.Given.{Given, order_from, trip_from}
 use Rattle.moves.specs.Compared.{Eases}
 use Rattle.moves.proofs.Trips.{roads_in_lem, junctions_in_lem, road_in_lem, park_in_lem}
@@ -84,7 +85,7 @@ module _ (b a : Given) (easier : EasierRun b a) (banned-b banned-a : ℕ → Boo
 
 module _ (b a : Given) (easier : EasierRun b a) where
   run_eases : Eases (trip_from b) (trip_from a)
-  run_eases = eases_with b a easier none_banned none_banned (λ r e. e)
+  run_eases = eases_with b a easier (listed_in b.bans) (listed_in a.bans) easier.bans
 
   pub run_starts : T (covers (start_in (trip_from b)) (start_in (trip_from a)))
   unfolding trip_of

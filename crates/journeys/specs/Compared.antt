@@ -1,10 +1,11 @@
--- Two runs compared, by their bytes. Document 01, "Two runs compared", and document 02, P5 and P7. Assumes nothing.
-use Rattle.std.specs.Prelude.{◌≡◌, List, ℕ, ◌≤◌, T}
+-- Two runs compared, by their bytes. Document 01, "Two runs compared", and document 02, P5, P7 and P8. Assumes nothing.
+use Rattle.std.specs.Prelude.{◌≡◌, true, List, ℕ, ◌≤◌, T}
 use Rattle.theory.specs.Figures.{none_above}
 use Rattle.roadmap.specs.Format.{junction_count, road_count, car_park, road_from, road_to}
 use Rattle.driving.specs.Order.{order_word, order_of}
 use Rattle.driving.specs.Hours.{wheel_figures}
 use Rattle.driving.specs.Compared.{EasesRules}
+use Rattle.bans.specs.Bans.{listed_in}
 use Rattle.moves.specs.Trip.{road_time}
 use Rattle.moves.specs.Given.{Given}
 
@@ -38,3 +39,5 @@ pub record EasierRun (b a : Given) : Type 0 where
   pub trip : SharedTrip b.order a.order
   pub map : EasierMap b.map a.map
   pub order : EasierOrder b.order a.order
+  -- B's banned roads are among A's
+  pub bans : (r : ℕ) → listed_in b.bans r ≡ true → listed_in a.bans r ≡ true

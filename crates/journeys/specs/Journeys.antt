@@ -1,10 +1,10 @@
--- Journeys: lists of legal moves. Document 01, "Moves". Assumes nothing.
+-- Journeys: lists of legal moves. Document 01, "Moves", and document 02, P8. Assumes nothing.
 use Rattle.std.specs.Prelude.{◌≡◌, Bool, true, false, ◌&&◌, List, [], ◌∷◌, ℕ, ◌+◌, T, eqb}
 use Rattle.std.proofs.Math.Option.{Option, none, some}
 use Rattle.states.specs.declared.State.{State}
 use Rattle.moves.specs.declared.Move.{Move}
 use Rattle.moves.specs.Trip.{Trip}
-use Rattle.moves.specs.Moves.{offers, offered, after, move_seconds}
+use Rattle.moves.specs.Moves.{offers, offered, after, begins, queue_seconds, move_seconds}
 use Rattle.states.specs.States.{start_of, legal, dominates_state}
 use Rattle.theory.specs.Lists.{keep}
 
@@ -38,6 +38,12 @@ unfoldable pub total_seconds : Trip → List Move → ℕ
 unfolding move_seconds
 total_seconds trip [] = 0
 total_seconds trip (m ∷ ms) = move_seconds trip m + total_seconds trip ms
+
+-- the sum of the queues before the moves, from this state on
+unfoldable pub total_queues : Trip → State → List Move → ℕ
+unfolding begins after
+total_queues trip s [] = 0
+total_queues trip s (m ∷ ms) = queue_seconds trip s m + total_queues trip (after trip s m) ms
 
 -- the states after those of the moves that are legal
 unfoldable pub results : Trip → State → List Move → List State

@@ -18,7 +18,7 @@ is_none (some a) = false
 
 -- the numbers of the refusals that are given before the search; 24 is the preview's
 abbrev pub before_search : List ℕ
-before_search = 1 ∷ 2 ∷ 3 ∷ 4 ∷ 5 ∷ 6 ∷ 7 ∷ 8 ∷ 9 ∷ 10 ∷ 11 ∷ 24 ∷ []
+before_search = 1 ∷ 2 ∷ 3 ∷ 4 ∷ 5 ∷ 6 ∷ 7 ∷ 8 ∷ 9 ∷ 10 ∷ 11 ∷ 24 ∷ 25 ∷ []
 
 -- refusal 12, full: N above labels that fit
 abbrev pub full : Trip → ℕ → Option ℕ
@@ -40,12 +40,12 @@ arrival_of (some a) = a.clock.0
 abbrev pub planned : Trip → Reply
 planned trip = succeeded (label_count trip) (arrival_of (answer_in trip))
 
--- what planning says of an accepted map and order
+-- what planning says of an accepted run
 unfoldable pub search_reply : Trip → ℕ → ℕ → Reply
 unfolding first_of
 search_reply trip fit sheet = first_of (search_tests trip fit sheet) (planned trip)
 
--- planning checks 1 to 14 in order
+-- planning checks 1 to 11, 25, and 12 to 14, in this order
 abbrev pub plan_tests : Given → ℕ → ℕ → List Test
 plan_tests given fit sheet = run_tests given ++ search_tests (trip_from given) fit sheet
 

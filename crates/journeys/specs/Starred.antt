@@ -1,5 +1,6 @@
--- The starred trial trips of document 01, with road times as document 02 (P2) rounds them, T with Europe's parts (P5) and T at the end of
--- a driver's week (P7), proved together: antt computes one test. Assumes nothing.
+-- The starred trial trips of document 01, with road times as document 02 (P2) rounds them, T with Europe's parts (P5), T at the end of a
+-- driver's week (P7) and T over a Sunday and over Good Friday with a road banned (P8), proved together: antt computes one test.
+-- Assumes nothing.
 use Rattle.std.specs.Prelude.{Bool, true, false, not, ◌&&◌, List, [], ◌∷◌, ◌++◌, ℕ, T, eqb}
 use Rattle.std.proofs.Math.Option.{Option, none, some}
 use Rattle.words.specs.Word.{word_at}
@@ -18,7 +19,9 @@ use Rattle.moves.specs.Trip.{Trip, trip_of}
 use Rattle.moves.specs.Given.{Given, given_of, trip_from}
 use Rattle.moves.specs.Moves.{move, after}
 use Rattle.states.specs.States.{figures_of, legal, same_state, covers, ranks_no_higher, dominates_state}
-use Rattle.theory.specs.Lists.{every}
+use Rattle.bans.specs.BanList.{bad_ban_at}
+use Rattle.calendar.specs.Gate.{gate_of}
+use Rattle.theory.specs.Lists.{memb, every}
 use Rattle.theory.specs.Figures.{none_above, same_each, lexicographic}
 use Rattle.sheets.specs.declared.Row.{Row}
 use Rattle.sheets.specs.Sheet.{word_bytes, heading_bytes, row_bytes, rows_bytes, sheet_after}
@@ -34,13 +37,18 @@ map_t =
     ++ (spelled (1 ∷ 2 ∷ 240000 ∷ 80 ∷ 3 ∷ 2 ∷ 3 ∷ 160000 ∷ 80 ∷ 0 ∷ 1 ∷ 3 ∷ 400000 ∷ 80 ∷ 0 ∷ [])
     ++ (0x48 ∷ 0x75 ∷ 0x62 ∷ 0x4C ∷ 0x61 ∷ 0x79 ∷ 0x45 ∷ 0x6E ∷ 0x64 ∷ [])))
 
--- the European order 1 to 3, departure 0, with this latest arrival; T keeps both parts zero
-abbrev pub order_t : ℕ → List ℕ
-order_t latest = spelled (1 ∷ 3 ∷ 0 ∷ latest ∷ 0 ∷ 0 ∷ 16200 ∷ 2700 ∷ 32400 ∷ 39600 ∷ 0 ∷ 0 ∷ 201600 ∷ 162000 ∷ 0 ∷ [])
+-- the European order 1 to 3, with this departure and latest arrival; T keeps both parts zero
+abbrev pub day_order_t : ℕ → ℕ → List ℕ
+day_order_t departure latest =
+    spelled (1 ∷ 3 ∷ departure ∷ latest ∷ 0 ∷ 0 ∷ 16200 ∷ 2700 ∷ 32400 ∷ 39600 ∷ 0 ∷ 0 ∷ 201600 ∷ 162000 ∷ 0 ∷ [])
 
--- a run on T by this order
+-- departure 0
+abbrev pub order_t : ℕ → List ℕ
+order_t latest = day_order_t 0 latest
+
+-- a run on T by this order, no road banned
 abbrev pub given_t : List ℕ → Given
-given_t order = given_of map_t order
+given_t order = given_of map_t order []
 
 abbrev pub trip_t : Trip
 trip_t = trip_from (given_t (order_t 100000))
@@ -84,6 +92,10 @@ pub data Case : Type 0 where
   labelled : (order : List ℕ) → List State → Case
   -- T by this order, with these labels that fit, gets a sheet of these words
   writes : (order : List ℕ) (fit : ℕ) → List ℕ → Case
+  -- T with these roads banned, by this order, with these labels that fit and a sheet of 60 bytes, gets this reply and these rows
+  queues : (bans order : List ℕ) (fit : ℕ) → Reply → List Row → Case
+  -- T with this list, by this order, is refused so where 4 labels fit
+  replies_with : (bans order : List ℕ) → Reply → Case
   -- at Lay with this spell, road 2 of 7,200 seconds is legal or not
   drives : (spell : ℕ) → Bool → Case
   -- the first state dominates the second or not
@@ -122,18 +134,24 @@ has_figures figures none = false
 has_figures figures (some a) = same_each (figures_of a) figures
 
 unfoldable pub right : Case → Bool
-unfolding plan_reply plan_sheet sheet_after heading_bytes rows_bytes row_bytes word_bytes word_at format junction_count road_count name_bytes junction_word road_word oversize outside lowest bad_junction_at bad_road_at broken_chain_at among chain_from bad_letter_at first_broken bad_rules bad_trip trip_of nearest road_seconds plan_rows plan_moves labels_in answer_in after legal same_state covers ranks_no_higher none_above same_each lexicographic
+unfolding plan_reply plan_sheet sheet_after heading_bytes rows_bytes row_bytes word_bytes word_at format junction_count road_count name_bytes junction_word road_word oversize outside lowest bad_junction_at bad_road_at broken_chain_at among chain_from bad_letter_at first_broken bad_rules bad_trip bad_ban_at memb gate_of trip_of nearest road_seconds plan_rows plan_moves labels_in answer_in after legal same_state covers ranks_no_higher none_above same_each lexicographic
 right (takes metres speed seconds) = eqb (road_seconds metres speed) seconds
 right (answers figures) = has_figures figures (answer_in trip_t)
 right (lists order rows) = same_rows (plan_rows (trip_from (given_t order))) rows
 right (replies order fit sheet reply) = same_reply (plan_reply (given_t order) fit sheet) reply
 right (labelled order states) = same_states (labels_in (trip_from (given_t order))) states
 right (writes order fit words) = same_each (plan_sheet (given_t order) fit blank_sheet) (spelled words)
+right (queues bans order fit reply rows) =
+    same_reply (plan_reply (given_of map_t order bans) fit 60) reply && same_rows (plan_rows (trip_from (given_of map_t order bans))) rows
+right (replies_with bans order reply) = same_reply (plan_reply (given_of map_t order bans) 4 60) reply
 right (drives spell is) = same_bool (legal trip_t.order (after trip_t (at_lay 0 spell spell) (move 1 2))) is
 right (dominating b a is) = same_bool (dominates_state b a) is
 
 -- in the order of document 01, its road times followed by some that lie halfway between two seconds; then T's sheet, and T with Europe's
--- parts: its N is 6, and of the sheet nothing else changes; then T by a driver whose week ends at Lay
+-- parts: its N is 6, and of the sheet nothing else changes; then T by a driver whose week ends at Lay; then T with a road banned: departing on
+-- Sunday 2 January 2000 at 00:00 the lorry rests in place of the queue, with one second less there is no road; who enters a second before
+-- midnight does not queue; departing on Good Friday 2000 at 00:00 it queues at source until 22:00, and who comes to Lay at 00:00 queues there;
+-- and lists that are bad
 abbrev pub starred_cases : List Case
 starred_cases =
     takes 240000 80 10800
@@ -179,6 +197,14 @@ starred_cases =
     ∷ dominating (state_at 2 10000 100 200 301 true) (state_at 2 10000 100 200 300 false) false
     ∷ writes (week_order_t 190800 180000) 6 (3 ∷ 180000 ∷ 7200 ∷ 7200 ∷ 7200 ∷ 6 ∷ 1 ∷ 1 ∷ 10800 ∷ 6 ∷ 2 ∷ 172800 ∷ 1 ∷ 2 ∷ 180000 ∷ [])
     ∷ replies (week_order_t 190800 179999) 5 60 (refused_at 13 5)
+    ∷ queues (2 ∷ []) (day_order_t 86400 172800) 5 (succeeded 5 172800) (row 1 1 97200 ∷ row 3 2 136800 ∷ row 1 2 172800 ∷ [])
+    ∷ queues (2 ∷ []) (day_order_t 86400 172799) 4 (refused_at 13 4) []
+    ∷ queues (1 ∷ []) (day_order_t 86399 107099) 4 (succeeded 4 107099) (row 1 1 97199 ∷ row 2 2 99899 ∷ row 1 2 107099 ∷ [])
+    ∷ queues (1 ∷ []) (day_order_t 9590400 9690300) 4 (succeeded 4 9690300) (row 1 1 9680400 ∷ row 2 2 9683100 ∷ row 1 2 9690300 ∷ [])
+    ∷ queues (2 ∷ []) (day_order_t 9579600 9676800) 5 (succeeded 5 9676800) (row 1 1 9590400 ∷ row 3 2 9630000 ∷ row 1 2 9676800 ∷ [])
+    ∷ replies_with (1 ∷ 1 ∷ []) (order_t 20700) (refused_at 25 2)
+    ∷ replies_with (2 ∷ 4 ∷ []) (order_t 20700) (refused_at 25 2)
+    ∷ replies_with (0 ∷ []) [] (refused_at 9 0)
     ∷ []
 
 pub starred : T (every right starred_cases)

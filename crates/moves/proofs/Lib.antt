@@ -1,4 +1,5 @@
 -- The laws of the moves.
+pub mod Entering
 pub mod Trips
 pub mod Opened
 pub mod Stepped

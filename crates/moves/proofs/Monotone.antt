@@ -16,11 +16,12 @@ use Rattle.driving.specs.Hours.{first_pause, last_pause, pause_seconds}
 use Rattle.driving.proofs.Hours.{drive_changes, figures_driven, pause_changes, figures_cleared, allowed_too, no_longer}
 use Rattle.states.specs.declared.State.{State}
 use Rattle.states.specs.States.{figures_of, limits_of, legal, covers}
-use Rattle.states.proofs.Compared.{covers_junction, covers_figures, covers_made, times_above, legal_within, within_legal}
+use Rattle.states.proofs.Compared.{covers_junction, covers_clock, covers_figures, covers_made, times_above, legal_within, within_legal}
 use Rattle.moves.specs.declared.Move.{Move}
 use Rattle.moves.specs.Trip.{Trip, road_in, park_in, roads_in}
-use Rattle.moves.specs.Moves.{leaves, may_pause, offers, after, move_seconds}
+use Rattle.moves.specs.Moves.{leaves, may_pause, offers, entered, after, begins, move_seconds}
 use Rattle.moves.specs.Compared.{Eases}
+use Rattle.moves.proofs.Entering.{entered_eased}
 use Rattle.moves.proofs.Stepped.{offered_road}
 use Rattle.moves.proofs.Offered.{pause_allowed}
 
@@ -29,12 +30,17 @@ abbrev changes_of : Bool → ℕ → List Change
 changes_of true kind = grows ∷ drive_changes
 changes_of false kind = grows ∷ pause_changes kind
 
-figures_after_lem : (trip : Trip) (s : State) (m : Move) → figures_of (after trip s m) ≡ changed_each (changes_of (eqb m.kind 1) m.kind) (move_seconds trip m) (figures_of s)
-unfolding after move_seconds changed_each
+-- the state when a move begins: behind the queue
+abbrev begun : Trip → State → Move → State
+begun trip s m = record { junction = s.junction; clock = record { 0 = begins trip s.clock.0 m }; figures = s.figures }
+
+-- the figures after a move are changes of those when it begins
+figures_after_lem : (trip : Trip) (s : State) (m : Move) → figures_of (after trip s m) ≡ changed_each (changes_of (eqb m.kind 1) m.kind) (move_seconds trip m) (figures_of (begun trip s m))
+unfolding after begins move_seconds changed_each
 figures_after_lem trip s m =
     ⊎_elim
     (λ (drive : eqb m.kind 1 ≡ true).
-    rw drive (ap (λ (l : List ℕ). (s.clock.0 + (road_in trip m.number).seconds) ∷ l) (figures_driven _ s.figures)))
+    rw drive (ap (λ (l : List ℕ). (entered (road_in trip m.number) s.clock.0 + (road_in trip m.number).seconds) ∷ l) (figures_driven _ s.figures)))
     (λ (pause : eqb m.kind 1 ≡ false).
     rw pause
     (ap (λ (l : List ℕ). (s.clock.0 + pause_seconds trip.order.rules m.kind) ∷ l)
@@ -83,6 +89,19 @@ module _ (tb ta : Trip) (eases : Eases tb ta) (b a : State) (m : Move) (over : T
       (no_longer tb.order.rules ta.order.rules eases.rules a.figures m.kind (pause_allowed ta a m.kind may)))
       (cases (eqb m.kind 1))
 
+  -- nor begins later
+  eased_begins : offers ta a m ≡ true → T (none_above (figures_of (begun tb b m)) (figures_of (begun ta a m)))
+  unfolding begins
+  eased_begins e =
+      let rest = above_tail _ _ _ _ (covers_figures b a over) in
+      ⊎_elim
+      (λ (drive : eqb m.kind 1 ≡ true).
+      let range = offered_road ta a m e drive in
+      rw drive
+      (above_more _ _ _ _ (entered_eased (road_in tb m.number).banned (road_in ta m.number).banned _ _ (eases.banned m.number range.0 range.1) (covers_clock b a over)) rest))
+      (λ (pause : eqb m.kind 1 ≡ false). rw pause (covers_figures b a over))
+      (cases (eqb m.kind 1))
+
   -- and leads to the same junction
   eased_junction : offers ta a m ≡ true → (after tb b m).junction ≡ (after ta a m).junction
   unfolding after
@@ -102,7 +121,7 @@ module _ (tb ta : Trip) (eases : Eases tb ta) (b a : State) (m : Move) (over : T
   eased_move offered lawful =
       let figures : T (none_above (figures_of (after tb b m)) (figures_of (after ta a m))) =
       rw (figures_after_lem tb b m, figures_after_lem ta a m)
-      (none_changed (changes_of (eqb m.kind 1) m.kind) _ _ (figures_of b) (figures_of a) (eased_seconds offered) (covers_figures b a over)) in
+      (none_changed (changes_of (eqb m.kind 1) m.kind) _ _ (figures_of (begun tb b m)) (figures_of (begun ta a m)) (eased_seconds offered) (eased_begins offered)) in
       let limits : T (none_above (limits_of ta.order) (limits_of tb.order)) =
       above_more _ _ _ _ (omega (arith, eases.latest)) eases.rules.limits in
       record {

@@ -1,4 +1,4 @@
--- Every move raises the clock by its own time, at least 1, and a legal one keeps the state in range. Assumes nothing.
+-- Every move raises the clock by its queue and its own time, at least 1, and a legal one keeps the state in range. Assumes nothing.
 use mathlib.Core.Path.{◌≡◌, sym, ap, subst}
 use mathlib.Core.Bool.{Bool, true, false}
 use mathlib.Core.List.{List}
@@ -26,11 +26,12 @@ use Rattle.moves.specs.declared.Move.{Move}
 use Rattle.moves.specs.declared.Run.{Run}
 use Rattle.moves.specs.Trip.{Stretch, Trip, trip_of, road_in, roads_in, junctions_in}
 use Rattle.moves.specs.Struck.{struck_in}
-use Rattle.moves.specs.Moves.{offers, after, move_seconds}
+use Rattle.moves.specs.Moves.{offers, after, begins, move_seconds}
 use Rattle.moves.specs.Runs.{Accepted, struck_of, trip_in, Tied, InRange, RangeIn}
 pub use Rattle.moves.specs.Runs.{SoundTrip}
 use Rattle.moves.proofs.Trips.{roads_in_lem, junctions_in_lem, order_in, road_in_lem}
 use Rattle.moves.proofs.Struck.{struck_roads, struck_parks, struck_order, struck_seconds, struck_other, struck_own}
+use Rattle.moves.proofs.Entering.{begins_from}
 use Rattle.moves.proofs.Stepped.{offered_road}
 use Rattle.moves.proofs.Offered.{pause_allowed}
 
@@ -91,9 +92,9 @@ run_sound map banned run accepted =
     let top : struck_of run ≤ road_count map = accepted.known in
     rw (road_in_lem map banned run.order (struck_of run) low top, junctions_in_lem map banned run.order) ((roads (struck_of run) low top).from.above, (roads (struck_of run) low top).from.below))
 
--- arrival less departure is the sum of road times, breaks, rests, parts of breaks and weekly rests
-pub clock_after : (trip : Trip) (s : State) (m : Move) → (after trip s m).clock.0 ≡ s.clock.0 + move_seconds trip m
-unfolding after move_seconds
+-- clock after a move: when it begins and its seconds, a road time, a break, a rest, a part of a break or a weekly rest
+pub clock_after : (trip : Trip) (s : State) (m : Move) → (after trip s m).clock.0 ≡ begins trip s.clock.0 m + move_seconds trip m
+unfolding after begins move_seconds
 clock_after trip s m =
     ⊎_elim (λ (drive : eqb m.kind 1 ≡ true). rw drive) (λ (pause : eqb m.kind 1 ≡ false). rw pause) (cases (eqb m.kind 1))
 
@@ -120,7 +121,7 @@ module _ (trip : Trip) (sound : SoundTrip trip) (s : State) (m : Move) (offered 
 
   -- every move raises the clock by at least 1
   pub raises : s.clock.0 + 1 ≤ (after trip s m).clock.0
-  raises = rw (clock_after trip s m) (omega (arith, takes_time))
+  raises = rw (clock_after trip s m) (omega (arith, takes_time, begins_from trip s.clock.0 m))
 
   junction_after : 1 ≤ s.junction → s.junction ≤ junctions_in trip → (1 ≤ (after trip s m).junction) × ((after trip s m).junction ≤ junctions_in trip)
   unfolding after

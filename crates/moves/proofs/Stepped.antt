@@ -1,19 +1,18 @@
 -- A move of each kind: what it is offered for and what it comes to. Assumes nothing.
-use mathlib.Core.Path.{◌≡◌, refl, sym, ap}
-use mathlib.Core.Bool.{Bool, true, false, ◌&&◌}
+use mathlib.Core.Path.{◌≡◌, refl}
+use mathlib.Core.Bool.{Bool, true, ◌&&◌}
 use mathlib.Core.List.{List}
-use mathlib.Core.Logic.{⊎_elim}
 use Prim.Native.Nat.{ℕ, ◌≤◌}
 use borrow.Author.Tests.{eq-eqb, ne_eqb, leb-true}
 use lib.Dec.{leb, eqb}
-use Rattle.booleans.proofs.Tests.{cases, and_true}
+use Rattle.booleans.proofs.Tests.{and_true}
 use Rattle.roadmap.specs.Format.{road_count}
 use Rattle.states.specs.declared.State.{State}
 use Rattle.states.specs.States.{legal}
 use Rattle.moves.specs.declared.Move.{Move}
 use Rattle.moves.specs.declared.Run.{Run}
-use Rattle.moves.specs.Trip.{Stretch, Trip, none_banned, road_in, roads_in}
-use Rattle.moves.specs.Moves.{move, leaves, may_pause, offers, driven, paused, after, judged, stepped}
+use Rattle.moves.specs.Trip.{Trip, none_banned, road_in, roads_in}
+use Rattle.moves.specs.Moves.{move, leaves, may_pause, offers, entered_when, driven_from, driven, paused, after, judged, stepped}
 use Rattle.moves.specs.Runs.{stretch_in, Tied}
 
 module _ (trip : Trip) (s : State) (m : Move) where
@@ -41,22 +40,16 @@ offered_road trip s m offered drive =
     let range = and_true {a = leb 1 m.number} (and_true {a = leb 1 m.number && leb m.number (roads_in trip)} leaving).0 in
     (leb-true _ _ range.0, leb-true _ _ range.1)
 
--- the drive of a road, by the map: a ban changes nothing of it
+-- the drive of a road that is entered when the trip says, by the map
 pub driven_in : {map : List ℕ} {banned : ℕ → Bool} {run : Run} {trip : Trip} → Tied map banned run trip → (s : State) (r : ℕ) → (1 ≤ r) × (r ≤ road_count map)
-    → driven (stretch_in map none_banned run r) s ≡ driven (road_in trip r) s
-driven_in tied s r range = ap (λ (road : Stretch). driven road s) (sym (tied.road r range.0 range.1))
+    → (entry : ℕ) → entry ≡ entered_when (banned r) s.clock.0 → driven_from entry (stretch_in map none_banned run r) s ≡ driven (road_in trip r) s
+driven_in tied s r range entry is = rw (tied.road r range.0 range.1, is)
 
--- what a drive and a pause come to, by the map and the run's order
+-- what a drive and a pause come to, by the run's order
 module _ {map : List ℕ} {banned : ℕ → Bool} {run : Run} {trip : Trip} (tied : Tied map banned run trip) (s : State) where
   pub drive_by_map : (r : ℕ) →
-      stepped trip s (move 1 r)
-      ≡ judged (leaves trip s.junction r) (legal run.order (driven (stretch_in map none_banned run r) s)) (driven (stretch_in map none_banned run r) s)
-  drive_by_map r =
-      ⊎_elim
-      (λ (leaving : leaves trip s.junction r ≡ true).
-      rw (stepped_drive trip s (move 1 r) refl, leaving, tied.order, driven_in tied s r (leaves_range tied s.junction r leaving)))
-      (λ (foreign : leaves trip s.junction r ≡ false). rw (stepped_drive trip s (move 1 r) refl, foreign))
-      (cases (leaves trip s.junction r))
+      stepped trip s (move 1 r) ≡ judged (leaves trip s.junction r) (legal run.order (driven (road_in trip r) s)) (driven (road_in trip r) s)
+  drive_by_map r = rw (stepped_drive trip s (move 1 r) refl, tied.order)
 
   pub pause_by_map : (m : Move) → (m.kind ≡ 1 → ⊥) →
       stepped trip s m

@@ -12,8 +12,9 @@ use lib.ListN.{get_or, set, length-set}
 use lib.Seq.{get_or-set_same, get_or-set_other}
 use Rattle.booleans.proofs.Tests.{cases, and_true}
 use Rattle.theory.specs.Figures.{none_above}
-use Rattle.theory.proofs.Figures.{above_self}
+use Rattle.theory.proofs.Figures.{above_self, above_more}
 use Rattle.theory.proofs.Changes.{grows, changed_each, none_changed}
+use Rattle.driving.specs.Hours.{driver_figures}
 use Rattle.driving.proofs.Hours.{drive_changes}
 use Rattle.states.specs.declared.State.{State}
 use Rattle.states.specs.States.{figures_of, covers}
@@ -21,7 +22,8 @@ use Rattle.states.proofs.Compared.{covers_made}
 use Rattle.moves.specs.declared.Move.{Move}
 use Rattle.moves.specs.Trip.{Stretch, Trip, no_stretch, road_in, roads_in}
 use Rattle.moves.specs.Struck.{struck_stretch, struck_in}
-use Rattle.moves.specs.Moves.{leaves, offers, driven, after}
+use Rattle.moves.specs.Moves.{leaves, offers, entered, driven, after}
+use Rattle.moves.proofs.Entering.{entered_from}
 use Rattle.moves.proofs.Stepped.{offered_road}
 
 -- what striking leaves of each road
@@ -33,11 +35,14 @@ module _ (f : Stretch → ℕ) (kept : (road : Stretch) → f (struck_stretch ro
   field_kept (x ∷ xs) (suc i) zero = refl
   field_kept (x ∷ xs) (suc i) (suc k) = field_kept xs i k
 
--- a drive lowers no figure: one of no seconds would leave each
+-- a drive lowers no figure: one of no seconds and no queue would leave each
 drive_lowers_none : (road : Stretch) (s : State) → T (none_above (figures_of s) (figures_of (driven road s)))
 unfolding changed_each
 drive_lowers_none road s =
-    simp add-zero at (none_changed (grows ∷ drive_changes) 0 road.seconds (figures_of s) (figures_of s) (omega arith) (above_self (figures_of s)))
+    let entering : State = record { junction = s.junction; clock = record { 0 = entered road s.clock.0 }; figures = s.figures } in
+    simp add-zero at
+    (none_changed (grows ∷ drive_changes) 0 road.seconds (figures_of s) (figures_of entering) (omega arith)
+    (above_more _ _ _ _ (entered_from road.banned s.clock.0) (above_self (driver_figures s.figures))))
 
 -- whether a move is the drive of this road
 abbrev pub drives : ℕ → Move → Bool

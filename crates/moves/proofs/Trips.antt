@@ -16,7 +16,7 @@ use Rattle.driving.specs.Hours.{first_pause, last_pause, allows_pause}
 use Rattle.states.specs.declared.State.{State}
 use Rattle.moves.specs.declared.Run.{Run}
 use Rattle.moves.specs.Trip.{Stretch, Trip, road_time, stretch_of, counted, trip_of, no_stretch, road_in, park_in, roads_in, junctions_in}
-use Rattle.moves.specs.Bans.{AgreeOn}
+use Rattle.bans.specs.Bans.{AgreeOn}
 use Rattle.moves.specs.Moves.{leaves, may_pause}
 use Rattle.moves.specs.Struck.{struck_stretch, struck_in}
 use Rattle.moves.specs.Runs.{struck_number, struck_of, trip_in, stretch_in, Unstruck, Tied, InRange}

@@ -1,5 +1,4 @@
 pub mod Trip
-pub mod Bans
 pub mod Given
 pub mod Struck
 pub mod Moves

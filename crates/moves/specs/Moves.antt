@@ -1,5 +1,7 @@
--- The moves: which are offered, and what they lead to. Document 01, "Moves", and document 02, P5 and P7. Assumes nothing.
-use Rattle.std.specs.Prelude.{Result, Ok, Err, Bool, true, false, ◌&&◌, List, [], ◌∷◌, ◌++◌, ℕ, ◌+◌, leb, eqb}
+-- The moves: which are offered, and what they lead to. Document 01, "Moves", and document 02, P5, P7 and P8. Assumes nothing.
+use Rattle.std.specs.Prelude.{Result, Ok, Err, Bool, true, false, ◌&&◌, List, [], ◌∷◌, ◌++◌, ℕ, ◌+◌, ◌-◌, leb, eqb}
+use Rattle.booleans.specs.Pick.{pick}
+use Rattle.calendar.specs.Gate.{gate_of}
 use Rattle.driving.specs.declared.Rules.{Rules}
 use Rattle.driving.specs.Hours.{driven_on, first_pause, last_pause, pause_count, pause_seconds, allows_pause, cleared}
 use Rattle.states.specs.declared.State.{State}
@@ -29,14 +31,24 @@ offers_kind false trip s m = eqb m.number s.junction && may_pause trip s m.kind
 unfoldable pub offers : Trip → State → Move → Bool
 offers trip s m = offers_kind (eqb m.kind 1) trip s m
 
--- drive: its time is added to clock, spell, shift and week
-abbrev pub driven : Stretch → State → State
-driven road s =
+-- when a lorry that comes at this moment enters a road: a banned one when its gate opens, any other at once
+abbrev pub entered_when : Bool → ℕ → ℕ
+entered_when banned clock = pick banned (gate_of clock) clock
+
+abbrev pub entered : Stretch → ℕ → ℕ
+entered road clock = entered_when road.banned clock
+
+-- drive: from the moment of entry on its time is added to clock, and it is added to spell, shift and week
+abbrev pub driven_from : ℕ → Stretch → State → State
+driven_from entry road s =
     record {
       junction = road.to;
-      clock = record { 0 = s.clock.0 + road.seconds };
+      clock = record { 0 = entry + road.seconds };
       figures = driven_on road.seconds s.figures;
     }
+
+abbrev pub driven : Stretch → State → State
+driven road s = driven_from (entered road s.clock.0) road s
 
 -- a pause of this kind: its time is added to clock, and figures are cleared or the mark is set
 abbrev pub paused : ℕ → Rules → State → State
@@ -54,13 +66,25 @@ after_kind false trip s m = paused m.kind trip.order.rules s
 unfoldable pub after : Trip → State → Move → State
 after trip s m = after_kind (eqb m.kind 1) trip s m
 
--- what a move adds to the clock: a road time, a break, a rest, a part of a break or a weekly rest
+-- what a move adds to the clock once it has begun: a road time, a break, a rest, a part of a break or a weekly rest
 abbrev pub seconds_kind : Bool → Trip → Move → ℕ
 seconds_kind true trip m = (road_in trip m.number).seconds
 seconds_kind false trip m = pause_seconds trip.order.rules m.kind
 
 unfoldable pub move_seconds : Trip → Move → ℕ
 move_seconds trip m = seconds_kind (eqb m.kind 1) trip m
+
+-- when a move begins: a drive when its road is entered, a pause at once
+abbrev pub begins_kind : Bool → Trip → ℕ → Move → ℕ
+begins_kind true trip clock m = entered (road_in trip m.number) clock
+begins_kind false trip clock m = clock
+
+unfoldable pub begins : Trip → ℕ → Move → ℕ
+begins trip clock m = begins_kind (eqb m.kind 1) trip clock m
+
+-- the queue before a move
+abbrev pub queue_seconds : Trip → State → Move → ℕ
+queue_seconds trip s m = begins trip s.clock.0 m - s.clock.0
 
 -- the moves made from those of the numbers that pass the test
 unfoldable pub chosen : (ℕ → Bool) → (ℕ → Move) → List ℕ → List Move

@@ -1,7 +1,7 @@
 -- The trip of an open run: its map's bytes and its order, with the roads banned that its bytes or its list say. Assumes nothing.
 use Rattle.moves.specs.declared.given.OpenRun.{OpenRun}
 use Rattle.moves.specs.Trip.{Trip}
-use Rattle.moves.specs.Bans.{closed_in, listed_in}
+use Rattle.bans.specs.Bans.{closed_in, listed_in}
 use Rattle.moves.specs.Runs.{trip_in}
 
 -- as a search is lent it

@@ -25,7 +25,7 @@ pub record Accepted (map : List ℕ) (run : Run) : Type 0 where
   pub ordered : AcceptedOrder (junction_count map) run.order
   pub known : struck_of run ≤ road_count map
 
--- the same, and no road is struck
+-- accepted, and no road is struck
 pub record Unstruck (map : List ℕ) (run : Run) : Type 0 where
   pub accepted : Accepted map run
   pub none_struck : run.struck ≡ None

@@ -4,18 +4,22 @@
 mod given;
 
 ghost use Rattle.std.specs.Prelude.{◌≡◌, Bool, true, ℕ, ◌≤◌, T, eqb};
+ghost use Rattle.replies.specs.First.{first_of};
+ghost use Rattle.replies.specs.Told.{succeeded, told_check};
 ghost use Rattle.theory.specs.Figures.{none_above};
 ghost use Rattle.roadmap.specs.Format.{junction_count, road_count};
 ghost use Rattle.driving.specs.Accepted.{SoundRules};
 ghost use Rattle.driving.specs.Hours.{wheel_figures, highest_limits};
 ghost use Rattle.driving.specs.Pauses.{pause_number};
 ghost use Rattle.states.specs.States.{legal};
-ghost use Rattle.moves.specs.Trip.{road_time, none_banned};
-ghost use Rattle.moves.specs.Moves.{move, driven, paused, judged, stepped, leaves, may_pause};
+ghost use Rattle.bans.specs.Bans.{listed_in};
+ghost use Rattle.moves.specs.Trip.{road_time, road_in, none_banned};
+ghost use Rattle.moves.specs.Moves.{move, entered_when, driven_from, driven, paused, judged, stepped, leaves, may_pause};
 ghost use Rattle.moves.specs.Runs.{struck_of, trip_in, end_when, stretch_in, InRange, RangeIn};
 ghost use Rattle.moves.specs.OpenRuns.{listed_trip};
 ghost use Rattle.moves.specs.Given.{given_of};
-ghost use Rattle.moves.specs.Opened.{OpenedSays};
+ghost use Rattle.moves.specs.RunTests.{order_check_tests};
+ghost use Rattle.moves.specs.Opened.{ReadSays, ListedSays, OpenedSays};
 
 use driving::{Order, Pause};
 pub use given::OpenRun;
@@ -73,18 +77,37 @@ fn end_of(run: &OpenRun<'_>, r: u32) -> u32
     }
 }
 
-// The state after driving road r from this state on, by the road's end and its time alone.
-pub fn after_drive(run: &OpenRun<'_>, state: State, r: u32) -> State
-    requires clock_bound { (state.clock.0 ≤ 2000000000) × T (none_above (wheel_figures state.figures) highest_limits) }
+// When a road is entered by a lorry that comes at this moment: a banned one when its gate opens.
+pub fn entry_time(banned: bool, clock: Clock) -> Clock
+    requires { clock.0 ≤ 2000000000 }
+    ensures { (result.0 ≡ entered_when banned clock.0) × (result.0 ≤ 2000079200) }
+{
+    if banned { calendar::gate(clock) } else { clock }
+}
+
+// The state after driving road r, which is entered at this moment, by the road's end and its time alone.
+pub fn after_drive(run: &OpenRun<'_>, state: State, entry: Clock, r: u32) -> State
+    requires entry_bound { (entry.0 ≤ 2000079200) × T (none_above (wheel_figures state.figures) highest_limits) }
     requires le_r { (1 ≤ r) × (r ≤ road_count run.now.map.now) }
-    ensures { result ≡ driven (stretch_in run.now.map.now none_banned run.now.about r) state }
+    ensures { result ≡ driven_from entry.0 (stretch_in run.now.map.now none_banned run.now.about r) state }
 {
     let time = seconds_of(run, r);
     State {
         junction: end_of(run, r),
-        clock: Clock(state.clock.0 + time),
+        clock: Clock(entry.0 + time),
         figures: driving::driven(state.figures, time),
     }
+}
+
+// The drive of road r, which the run's list says is banned or not.
+#[tactic(auto, using(crate::proofs::Rising::drives_on))]
+pub fn after_listed_drive(run: &OpenRun<'_>, state: State, r: u32) -> State
+    requires range_in { RangeIn (listed_trip run.now) state }
+    requires le_r { (1 ≤ r) × (r ≤ road_count run.now.map.now) }
+    ensures { result ≡ driven (road_in (listed_trip run.now) r) state }
+{
+    let entry = entry_time(bans::is_listed(run.bans, r), state.clock);
+    after_drive(run, state, entry, r)
 }
 
 // The state after a pause of this kind.
@@ -134,7 +157,7 @@ fn judge(order: Order, state: State) -> Result<State, Fault>
 }
 
 // The drive of road r, any number.
-#[tactic(auto, using(crate::proofs::Trips::run_tied, crate::proofs::Rising::drives_on, crate::proofs::Stepped::leaves_range))]
+#[tactic(auto, using(crate::proofs::Trips::run_tied, crate::proofs::Stepped::leaves_range))]
 pub fn drive(run: &OpenRun<'_>, state: State, r: u32) -> Result<State, Fault>
     requires { RangeIn (listed_trip run.now) state }
     ensures { result ≡ stepped (listed_trip run.now) state (move 1 r) }
@@ -142,7 +165,7 @@ pub fn drive(run: &OpenRun<'_>, state: State, r: u32) -> Result<State, Fault>
     if !leaves_road(run, state.junction, r) {
         return Err(Fault::Foreign);
     }
-    judge(run.about.order, after_drive(run, state, r))
+    judge(run.about.order, after_listed_drive(run, state, r))
 }
 
 // A pause, of any kind but a drive's and at a junction of any number, whichever roads are banned.
@@ -170,9 +193,9 @@ pub fn take_move(run: &OpenRun<'_>, state: State, m: Move) -> Result<State, Faul
     }
 }
 
-// A run whose map and order are accepted; otherwise refusals 1 to 11.
-pub fn open_run<'a>(map: &'a [u8], order: &[u8]) -> Result<OpenRun<'a>, Refusal>
-    ensures { OpenedSays (given_of map.now order.now) result }
+// The run of a map and an order that are accepted, with no road banned; otherwise refusals 1 to 11.
+pub fn read_run<'a>(map: &'a [u8], order: &[u8]) -> Result<OpenRun<'a>, Refusal>
+    ensures { ReadSays map.now order.now result }
 {
     mapcheck::check_map(map)?;
     let sizes = roadmap::sizes_of(map);
@@ -188,4 +211,34 @@ pub fn open_run<'a>(map: &'a [u8], order: &[u8]) -> Result<OpenRun<'a>, Refusal>
         bans: &[],
         about,
     })
+}
+
+impl<'a> OpenRun<'a> {
+    // The same run with this list of banned roads; otherwise refusal 25.
+    pub fn with_bans(self, bans: &'a [u32]) -> Result<OpenRun<'a>, Refusal>
+        ensures { ListedSays self.entry bans.now result }
+    {
+        bans::check_bans(bans, self.about.sizes.roads)?;
+        Ok(OpenRun {
+            map: self.map,
+            closed: self.closed,
+            bans,
+            about: self.about,
+        })
+    }
+}
+
+// The same with a list of banned roads; otherwise refusals 1 to 11, then 25.
+pub fn open_run<'a>(map: &'a [u8], order: &[u8], bans: &'a [u32]) -> Result<OpenRun<'a>, Refusal>
+    ensures { OpenedSays (given_of map.now order.now bans.now) result }
+{
+    read_run(map, order)?.with_bans(bans)
+}
+
+// The order check: an order and its list alone, for a map of so many junctions and roads.
+pub fn check_order(order: &[u8], bans: &[u32], junctions: u32, roads: u32) -> Result<(), Refusal>
+    ensures { told_check result ≡ first_of (order_check_tests junctions roads order.now bans.now) (succeeded 0 0) }
+{
+    driving::check_order(order, junctions)?;
+    bans::check_bans(bans, roads)
 }

@@ -127,11 +127,11 @@ fn list(page: &mut impl Write, run: &OpenRun<'_>, sheet: &[u8]) -> io::Result<()
     )
 }
 
-// The run is opened once more for the map's sizes.
+// The run is read once more for the map's sizes.
 fn print_plan(rt: &impl Print, map: &[u8], order: &[u8], sheet: &[u8])
     requires { header_bytes ≤ length sheet.now }
 {
-    if let Ok(run) = moves::open_run(map, order) {
+    if let Ok(run) = moves::read_run(map, order) {
         let mut page = Page::new(rt);
         let _ = list(&mut page, &run, sheet);
         let _ = page.flush();
@@ -146,7 +146,7 @@ fn print_refusal(rt: &impl Print, why: Refusal) {
 fn plan_and_print(rt: &impl Print, map: &[u8], order: &[u8]) {
     let mut words = [0u32; SPACE_WORDS];
     let mut sheet = [0u8; SHEET_BYTES];
-    match planner::plan(map, order, &mut words, &mut sheet) {
+    match planner::plan(map, order, &[], &mut words, &mut sheet) {
         Ok(_) => print_plan(rt, map, order, &sheet),
         Err(why) => print_refusal(rt, why),
     }

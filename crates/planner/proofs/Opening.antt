@@ -6,7 +6,7 @@ use Prim.Native.Nat.{ℕ}
 use native.Mathlib.Omega.{arith}
 use lib.Dec.{T, T_not, eqb}
 use lib.ListN.{length}
-use Rattle.std.specs.Prelude.{Result, Ok, Err}
+use Rattle.std.specs.Prelude.{Result, Err}
 use Rattle.replies.specs.declared.Plan.{Plan}
 use Rattle.replies.specs.declared.Refusal.{Refusal}
 use Rattle.replies.specs.declared.Reply.{Reply}
@@ -17,8 +17,6 @@ use Rattle.roadmap.specs.Format.{road_count}
 use Rattle.mapcheck.specs.MapCheck.{outside}
 use Rattle.moves.specs.declared.given.OpenRun.{OpenRun}
 use Rattle.moves.specs.Trip.{Trip}
-use Rattle.moves.specs.Bans.{closed_in, listed_in, AgreeOn}
-use Rattle.moves.specs.Opened.{OpenedSays}
 use Rattle.moves.specs.Given.{Given, trip_from}
 use Rattle.moves.specs.RunTests.{run_tests}
 use Rattle.theory.specs.Lists.{memb}
@@ -30,20 +28,13 @@ use Rattle.search.specs.Turns.{OutcomeSays}
 use Rattle.planner.specs.Parts.{Concluded}
 use Rattle.planner.specs.Planned.{Planned}
 
--- the trip and the labels that fit, told otherwise
-pub ends_with : {trip trip' : Trip} {fit fit' : ℕ} {ws : List ℕ} {outcome : Result ℕ Unfound} → trip ≡ trip' → fit ≡ fit' → OutcomeSays trip fit ws outcome → OutcomeSays trip' fit' ws outcome
-ends_with {trip} {fit' = fit'} {ws = ws} {outcome = outcome} same e says =
-    subst (λ (t : Trip). OutcomeSays t fit' ws outcome) same (subst (λ (k : ℕ). OutcomeSays trip k ws outcome) e says)
+-- the labels that fit, told otherwise
+pub ends_with : {trip : Trip} {fit fit' : ℕ} {ws : List ℕ} {outcome : Result ℕ Unfound} → fit ≡ fit' → OutcomeSays trip fit ws outcome → OutcomeSays trip fit' ws outcome
+ends_with {trip} {ws = ws} {outcome = outcome} e says = subst (λ (k : ℕ). OutcomeSays trip k ws outcome) e says
 
--- An opened run: no road of it is banned.
-module _ (given : Given) (run : OpenRun) (opened : OpenedSays given (Ok run)) where
-  pub bans_agree : AgreeOn (road_count run.map.now) (closed_in run.closed.now) (listed_in run.bans.now)
-  unfolding memb
-  bans_agree r low high = rw (opened.3.1, opened.3.2)
-
-  -- which roads are known is told by its counts
-  pub road_known : (road : ℕ) → outside 1 run.about.sizes.roads road ≡ outside 1 (road_count given.map) road
-  road_known road = ap (λ (roads : ℕ). outside 1 roads road) opened.0.accepted.sized.roads
+-- which roads are known is told by a run's counts
+pub road_known : (map : List ℕ) (run : OpenRun) → run.map.now ≡ map → (road : ℕ) → outside 1 run.about.sizes.roads road ≡ outside 1 (road_count map) road
+road_known map run same road = ap (λ (roads : ℕ). outside 1 roads road) (run.accepted.sized.roads ∙ ap road_count same)
 
 module _ (given : Given) (words sheet : List ℕ) where
   abbrev fit : ℕ

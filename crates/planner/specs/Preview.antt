@@ -11,7 +11,7 @@ use Rattle.striking.specs.Striking.{struck, unknown_road}
 use Rattle.theory.specs.Lists.{memb}
 use Rattle.states.specs.LabelSpace.{labels_that_fit}
 use Rattle.moves.specs.Given.{Given, on_map}
-use Rattle.moves.specs.RunTests.{run_tests}
+use Rattle.moves.specs.RunTests.{opening_tests}
 use Rattle.journeys.specs.Planning.{before_search, plan_reply, plan_sheet}
 
 -- the map so struck
@@ -20,9 +20,9 @@ struck_given given road = on_map (struck given.map road) given
 
 -- 1 to 11, of the lent map, and 24
 abbrev pub closure_tests : Given → ℕ → List Test
-closure_tests given road = run_tests given ++ ((24 at unknown_road given.map road) ∷ [])
+closure_tests given road = opening_tests given.map given.order ++ ((24 at unknown_road given.map road) ∷ [])
 
--- the preview: the first of these that fits; else what planning replies on the map so struck
+-- the preview: the first of these that fits; else what planning replies on the map so struck, with the same list: 25 comes behind 24
 unfoldable pub preview_reply : Given → ℕ → ℕ → ℕ → Reply
 preview_reply given road fit sheet = first_of (closure_tests given road) (plan_reply (struck_given given road) fit sheet)
 

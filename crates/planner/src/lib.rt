@@ -2,8 +2,6 @@
 #![tactic(auto)]
 
 ghost use Rattle.std.specs.Prelude.{◌≡◌, ◌≤◌, length};
-ghost use Rattle.roadmap.specs.Format.{road_count};
-ghost use Rattle.moves.specs.Bans.{closed_in, listed_in, AgreeOn};
 ghost use Rattle.moves.specs.Given.{given_of};
 ghost use Rattle.moves.specs.OpenRuns.{listed_trip};
 ghost use Rattle.sheets.specs.Sheet.{sheet_needed};
@@ -66,30 +64,29 @@ fn conclude(
     }
 }
 
-// Planning of an open run. The search is lent one byte a road that says whether it is banned, reading
-// the plan back the list of the banned roads; they say the same.
+// Planning of an open run.
 fn plan_run(
     run: &OpenRun<'_>,
     words: &mut [u32],
     sheet: &mut [u8],
 ) -> Result<replies::Plan, Refusal>
-    requires { AgreeOn (road_count run.now.map.now) (closed_in run.now.closed.now) (listed_in run.now.bans.now) }
     ensures { Concluded (listed_trip run.now) (labels_that_fit (length words.old)) sheet.old sheet.new result }
 {
     let outcome = search::search(run, words);
     conclude(run, words, outcome, sheet)
 }
 
-// Planning: the first-arriving legal plan, written to the sheet. `words` is label space.
+// Planning: the first-arriving legal plan, written to the sheet. `bans` lists the banned roads, `words` is label space.
 pub fn plan(
     map: &[u8],
     order: &[u8],
+    bans: &[u32],
     words: &mut [u32],
     sheet: &mut [u8],
 ) -> Result<replies::Plan, Refusal>
-    ensures { Planned (given_of map.now order.now) words.old words.new sheet.old sheet.new result }
+    ensures { Planned (given_of map.now order.now bans.now) words.old words.new sheet.old sheet.new result }
 {
-    let run = moves::open_run(map, order)?;
+    let run = moves::open_run(map, order, bans)?;
     plan_run(&run, words, sheet)
 }
 
@@ -97,16 +94,18 @@ pub fn plan(
 pub fn preview(
     map: &[u8],
     order: &[u8],
+    bans: &[u32],
     road: u32,
     words: &mut [u32],
     sheet: &mut [u8],
 ) -> Result<replies::Plan, Refusal>
-    ensures { Previewed (given_of map.now order.now) road words.old words.new sheet.old sheet.new result }
+    ensures { Previewed (given_of map.now order.now bans.now) road words.old words.new sheet.old sheet.new result }
 {
-    let run = moves::open_run(map, order)?;
-    if striking::is_unknown(run.about.sizes, road) {
+    let read = moves::read_run(map, order)?;
+    if striking::is_unknown(read.about.sizes, road) {
         return Err(Refusal::UnknownRoad(road as usize));
     }
+    let run = read.with_bans(bans)?;
     let struck = OpenRun {
         map: run.map,
         closed: run.closed,

@@ -1,6 +1,6 @@
 -- What is known of the trip of an open run, and of the labels of a search that found an answer. Assumes nothing.
 use Rattle.moves.specs.declared.given.OpenRun.{OpenRun}
-use Rattle.moves.specs.Bans.{listed_in}
+use Rattle.bans.specs.Bans.{listed_in}
 use Rattle.moves.specs.Runs.{SoundTrip, Tied}
 use Rattle.moves.specs.OpenRuns.{listed_trip}
 use Rattle.moves.proofs.Trips.{run_tied}

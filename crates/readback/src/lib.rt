@@ -47,7 +47,7 @@ impl<'a> Leg<'a> {
         0 < road
             && !leads_to(
                 self.run.about.order,
-                moves::after_drive(self.run, self.from, road),
+                moves::after_listed_drive(self.run, self.from, road),
                 self.to,
             )
     }

@@ -29,7 +29,7 @@ abbrev pub sheet_tests : Order → List ℕ → Walk → List Test
 sheet_tests order sheet timed =
     (15 at torn_sheet sheet) ∷ move_test timed ∷ (19 at stray order.target timed) ∷ []
 
--- retiming: 1 to 11, 15, then 16 and 17 move by move, 19, 14
+-- retiming: 1 to 11, 25, 15, then 16 and 17 move by move, 19, 14
 abbrev pub retiming_tests : Given → List ℕ → List ℕ → Walk → List Test
 retiming_tests given sheet out timed =
     run_tests given

@@ -105,10 +105,10 @@ fn audit_run(run: &OpenRun<'_>, sheet: &[u8]) -> Result<Timed, Refusal>
 }
 
 // Audit: whether a sheet's moves are legal and its figures true.
-pub fn audit(map: &[u8], order: &[u8], sheet: &[u8]) -> Result<Timed, Refusal>
-    ensures { told_timing result ≡ audit_reply (given_of map.now order.now) sheet.now }
+pub fn audit(map: &[u8], order: &[u8], bans: &[u32], sheet: &[u8]) -> Result<Timed, Refusal>
+    ensures { told_timing result ≡ audit_reply (given_of map.now order.now bans.now) sheet.now }
 {
-    let run = moves::open_run(map, order)?;
+    let run = moves::open_run(map, order, bans)?;
     audit_run(&run, sheet)
 }
 
@@ -155,9 +155,15 @@ fn retime_run(run: &OpenRun<'_>, sheet: &[u8], out: &mut [u8]) -> Result<Timed, 
 }
 
 // Retiming: the moves of a sheet with their true figures, written to another sheet.
-pub fn retime(map: &[u8], order: &[u8], sheet: &[u8], out: &mut [u8]) -> Result<Timed, Refusal>
-    ensures { Retimed (given_of map.now order.now) sheet.now out.old out.new result }
+pub fn retime(
+    map: &[u8],
+    order: &[u8],
+    bans: &[u32],
+    sheet: &[u8],
+    out: &mut [u8],
+) -> Result<Timed, Refusal>
+    ensures { Retimed (given_of map.now order.now bans.now) sheet.now out.old out.new result }
 {
-    let run = moves::open_run(map, order)?;
+    let run = moves::open_run(map, order, bans)?;
     retime_run(&run, sheet, out)
 }

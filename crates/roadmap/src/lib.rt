@@ -27,6 +27,9 @@ impl Sizes {
     // The length of an array with an entry for each junction of any map; entry 0 is no junction's.
     pub const JUNCTION_ENTRIES: usize = Sizes::MOST_JUNCTIONS as usize + 1;
 
+    // The same with an entry for each road.
+    pub const ROAD_ENTRIES: usize = Sizes::MOST_ROADS as usize + 1;
+
     // Where junction j stands: its first road. It is the same on every map.
     pub fn junction_at(j: u32) -> usize
         requires { 1 ≤ j }

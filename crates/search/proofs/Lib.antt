@@ -7,4 +7,5 @@ pub mod Stopping
 pub mod Offering
 pub mod Rounds
 pub mod Beginning
+pub mod Marked
 pub mod Lending

@@ -2,9 +2,10 @@
 #![tactic(auto)]
 
 ghost use Rattle.std.specs.Prelude.{◌+◌, ◌*◌, ◌<◌, ◌≤◌, T, length};
-ghost use Rattle.roadmap.specs.Format.{most_junctions};
+ghost use Rattle.roadmap.specs.Format.{most_junctions, road_count};
+ghost use Rattle.bans.specs.Bans.{closed_in, listed_in, AgreeOn};
 ghost use Rattle.moves.specs.Trip.{junctions_in};
-ghost use Rattle.moves.specs.OpenRuns.{searched_trip};
+ghost use Rattle.moves.specs.OpenRuns.{searched_trip, listed_trip};
 ghost use Rattle.theory.specs.States.{Covered};
 ghost use Rattle.journeys.specs.Journeys.{at_target};
 ghost use Rattle.states.specs.States.{covers};
@@ -282,14 +283,47 @@ fn search_labels(run: &OpenRun<'_>, words: &mut [u32]) -> Result<usize, Unfound>
     }
 }
 
+// The same, with bytes that say of every road what the list of banned roads says. It and the next are kept apart, so that
+// their arrays take room once, and the bytes only where they are marked.
+#[inline(never)]
+fn search_with(run: &OpenRun<'_>, closed: &[u8], words: &mut [u32]) -> Result<usize, Unfound>
+    requires fits { 1 ≤ labels_that_fit (length words.old) }
+    requires agree { AgreeOn (road_count run.now.map.now) (closed_in closed.now) (listed_in run.now.bans.now) }
+    ensures { OutcomeSays (listed_trip run.now) (labels_that_fit (length words.old)) words.new result }
+{
+    let searched = OpenRun {
+        map: run.map,
+        closed,
+        bans: run.bans,
+        about: run.about,
+    };
+    search_labels(&searched, words)
+}
+
+// The same, with one byte a road, marked from the list.
+#[inline(never)]
+fn search_marked(run: &OpenRun<'_>, words: &mut [u32]) -> Result<usize, Unfound>
+    requires fits { 1 ≤ labels_that_fit (length words.old) }
+    ensures { OutcomeSays (listed_trip run.now) (labels_that_fit (length words.old)) words.new result }
+{
+    let mut closed = [0; Sizes::ROAD_ENTRIES];
+    bans::mark(run.bans, &mut closed);
+    search_with(run, &closed, words)
+}
+
 // The search of an accepted run in lent words, by the last of so many labels: only those that fit are
-// touched.
+// touched. Where no road is banned nothing is marked.
 pub fn search(run: &OpenRun<'_>, words: &mut [u32]) -> Result<usize, Unfound>
-    ensures { Searched (searched_trip run.now) words.old words.new result }
+    ensures { Searched (listed_trip run.now) words.old words.new result }
 {
     let fit = states::labels_that_fit(words.len());
     if fit == 0 {
         return Err(Unfound::Full);
     }
-    search_labels(run, &mut words[..State::LABEL_WORDS * fit])
+    let lent = &mut words[..State::LABEL_WORDS * fit];
+    if run.bans.is_empty() {
+        search_with(run, &[], lent)
+    } else {
+        search_marked(run, lent)
+    }
 }

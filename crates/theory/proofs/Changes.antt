@@ -34,7 +34,8 @@ slack_one grows slack more d e x y longer near = omega arith
 slack_one stays slack more d e x y longer near = omega arith
 slack_one (becomes v) slack more d e x y longer near = omega arith
 
--- figures at most the others' plus the slack, changed alike by seconds at most the others' plus more: at most the others' plus both
+-- figures at most the others' plus the slack, changed alike by seconds at most the others' plus more: at most the others' plus both. These are
+-- figures when a change begins: what may delay its beginning need not keep a slack above 0 (`entered_eased` in moves)
 pub slack_changed : (cs : List Change) (slack more d e : ℕ) (xs ys : List ℕ) → d ≤ e + more → T (none_above xs (raised slack ys))
     → T (none_above (changed_each cs d xs) (raised (slack + more) (changed_each cs e ys)))
 unfolding none_above raised changed_each

@@ -1,12 +1,13 @@
 // Runs worked cases of every operation, and prints each one's answer.
 //
-// A case on standard input: its kind, the length of its title, the title, five words (a number, the
-// words of label space, and the lengths of map, order and sheet), the map, the order, the sheet. The
-// number is the junction asked for a name, the junction count for an order, the length of the lent
-// sheet for retiming, the road for striking and for a preview, and for planning what every label word
-// holds beforehand. The sheet of planning and of a preview is the one that is lent. For replaying, the
-// order's place has an order's words 4 to 14 alone, the number is 0 without the mark and 1 with it, and
-// the sheet's place has the trace.
+// A case on standard input: its kind, the length of its title, the title, seven words (a number, a count
+// of roads, the words of label space, and the lengths in bytes of map, order, ban list and sheet), the
+// map, the order, the ban list, the sheet. The number is the junction asked for a name, the junction
+// count for an order, beside which the roads are counted, the length of the lent sheet for retiming, the
+// road for striking and for a preview, and for planning what every label word holds beforehand. The
+// sheet of planning and of a preview is the one that is lent. For replaying, the order's place has an
+// order's words 4 to 14 alone, the number is 0 without the mark and 1 with it, and the sheet's place has
+// the trace.
 #![tactic(auto)]
 
 ghost use Rattle.std.specs.Prelude.{◌≤◌, ◌<◌, length};
@@ -26,8 +27,11 @@ const SHEET_BYTES: usize = 1024;
 
 const LABEL_WORDS: usize = 4096;
 
-// The five words of a case.
-const HEADER_BYTES: usize = 20;
+// The seven words of a case.
+const HEADER_BYTES: usize = 28;
+
+// Room for the longest ban list of a case.
+const LIST_WORDS: usize = 64;
 
 // The driver's figures and the rules: an order's words 4 to 14.
 const HOURS_BYTES: usize = 44;
@@ -81,10 +85,13 @@ impl TryFrom<u8> for Kind {
 #[derive(Drop)]
 struct Case<'a> {
     number: u32,
+    // the count of roads beside which an order is checked
+    roads: u32,
     // the words of label space
     words: usize,
     map: &'a mut [u8],
     order: &'a [u8],
+    bans: &'a [u32],
     sheet: &'a [u8],
 }
 
@@ -137,7 +144,10 @@ where
 }
 
 fn run_audit(rt: &impl Print, case: &Case<'_>) -> io::Result<()> {
-    print_answer(rt, retiming::audit(case.map, case.order, case.sheet))
+    print_answer(
+        rt,
+        retiming::audit(case.map, case.order, case.bans, case.sheet),
+    )
 }
 
 fn run_retiming(rt: &impl Print, case: &Case<'_>) -> io::Result<()> {
@@ -147,7 +157,7 @@ fn run_retiming(rt: &impl Print, case: &Case<'_>) -> io::Result<()> {
     }
     let mut space = [MARKED_BYTE; SHEET_BYTES];
     let lent = &mut space[..length];
-    let answer = retiming::retime(case.map, case.order, case.sheet, lent);
+    let answer = retiming::retime(case.map, case.order, case.bans, case.sheet, lent);
     print_written(rt, answer, lent)
 }
 
@@ -214,17 +224,32 @@ fn run(rt: &impl Print, kind: Kind, case: Case<'_>) -> io::Result<()> {
         Kind::Name => print_name(rt, case.map, number),
         Kind::MakeChains => run_change(rt, case.map, mapedit::make_chains),
         Kind::Strike => run_change(rt, case.map, |map| striking::strike(map, number)),
-        Kind::CheckOrder => print_answer(rt, driving::check_order(case.order, number)),
+        Kind::CheckOrder => print_answer(
+            rt,
+            moves::check_order(case.order, case.bans, number, case.roads),
+        ),
         Kind::Audit => run_audit(rt, &case),
         Kind::Retime => run_retiming(rt, &case),
         Kind::Replay => run_replay(rt, number != 0, case.order, case.sheet),
         Kind::Plan => run_planning(rt, &case, number, |case, words, lent| {
-            planner::plan(case.map, case.order, words, lent)
+            planner::plan(case.map, case.order, case.bans, words, lent)
         }),
         Kind::Preview => run_planning(rt, &case, MARKED_WORD, |case, words, lent| {
-            planner::preview(case.map, case.order, number, words, lent)
+            planner::preview(case.map, case.order, case.bans, number, words, lent)
         }),
     }
+}
+
+// Reads the words of a ban list, as many as there is room for, and returns how many they are.
+fn read_list(bytes: &[u8], list: &mut [u32]) -> usize
+    ensures { result ≤ length list.new }
+{
+    let mut count = 0;
+    while count < list.len() && count < bytes.len() / 4 {
+        list[count] = word(bytes, 4 * count);
+        count += 1;
+    }
+    count
 }
 
 // Runs the case at the head of the bytes, and returns how many it takes: all, where it is cut off.
@@ -242,25 +267,32 @@ fn run_case(rt: &impl Print, bytes: &mut [u8]) -> usize
     if all < map {
         return all;
     }
-    let order = map + (word(bytes, header + 8) as usize);
-    let sheet = order + (word(bytes, header + 12) as usize);
-    let end = sheet + (word(bytes, header + 16) as usize);
+    let order = map + (word(bytes, header + 12) as usize);
+    let list = order + (word(bytes, header + 16) as usize);
+    let sheet = list + (word(bytes, header + 20) as usize);
+    let end = sheet + (word(bytes, header + 24) as usize);
     if all < end {
         return all;
     }
     let kind = Kind::try_from(bytes[0]);
     let number = word(bytes, header);
-    let words = word(bytes, header + 4) as usize;
+    let roads = word(bytes, header + 4);
+    let words = word(bytes, header + 8) as usize;
     let _ = rt.write_all(&bytes[2..header]);
     let _ = print!(rt; ": ");
     if let Ok(kind) = kind {
         let (lent, rest) = bytes[map..end].split_at_mut(order - map);
-        let (order, sheet) = rest.split_at(sheet - order);
+        let (order, rest) = rest.split_at(list - order);
+        let (listed, sheet) = rest.split_at(sheet - list);
+        let mut room = [0; LIST_WORDS];
+        let count = read_list(listed, &mut room);
         let case = Case {
             number,
+            roads,
             words,
             map: lent,
             order,
+            bans: &room[..count],
             sheet,
         };
         let _ = run(rt, kind, case);

@@ -11,12 +11,12 @@ use Rattle.booleans.specs.Pick.{pick}
 use Rattle.roadmap.specs.Format.{name_length}
 use Rattle.mapcheck.specs.MapCheck.{map_tests}
 use Rattle.driving.specs.declared.Figures.{Figures}
-use Rattle.driving.specs.Order.{order_tests}
 use Rattle.replay.specs.Replay.{Replayed}
 use Rattle.striking.specs.Striking.{Striking}
 use Rattle.mapedit.specs.Name.{name_reply, name_at}
 use Rattle.mapedit.specs.Chaining.{ChainMaking}
 use Rattle.moves.specs.Given.{Given}
+use Rattle.moves.specs.RunTests.{order_check_tests}
 use Rattle.retiming.specs.Retiming.{audit_reply, Retimed}
 use Rattle.planner.specs.Planned.{Planned}
 use Rattle.planner.specs.Preview.{Previewed}
@@ -24,7 +24,7 @@ use Rattle.trunk.specs.Written.{reply_put, part_put, rules_in, figures_in, figur
 
 -- the version of the library: of its calls, the formats that they read and write, and the numbers that they tell
 abbrev pub library_version : ℕ
-library_version = 1
+library_version = 2
 
 -- a call that only judges: it writes nothing but what it tells
 pub record JudgingCall (tells : Reply) (reply reply' : List ℕ) : Type 0 where
@@ -34,9 +34,10 @@ pub record JudgingCall (tells : Reply) (reply reply' : List ℕ) : Type 0 where
 abbrev pub MapCheckCall : List ℕ → List ℕ → List ℕ → Type 0
 MapCheckCall map reply reply' = JudgingCall (first_of (map_tests map) (succeeded 0 0)) reply reply'
 
--- `junctions` is J of the map that the order is meant for
-abbrev pub OrderCheckCall : List ℕ → ℕ → List ℕ → List ℕ → Type 0
-OrderCheckCall order junctions reply reply' = JudgingCall (first_of (order_tests junctions order) (succeeded 0 0)) reply reply'
+-- `junctions` and `roads` are J and R of the map that the order and its list are meant for
+abbrev pub OrderCheckCall : List ℕ → List ℕ → ℕ → ℕ → List ℕ → List ℕ → Type 0
+OrderCheckCall order bans junctions roads reply reply' =
+    JudgingCall (first_of (order_check_tests junctions roads order bans) (succeeded 0 0)) reply reply'
 
 abbrev pub AuditCall : Given → List ℕ → List ℕ → List ℕ → Type 0
 AuditCall given sheet reply reply' = JudgingCall (audit_reply given sheet) reply reply'

@@ -25,7 +25,7 @@ const RULE_WORDS: usize = 8;
 const FIGURE_WORDS: usize = 4;
 
 // The version of the library: it rises when a call, a format or a number changes.
-const VERSION: u32 = 1;
+const VERSION: u32 = 2;
 
 #[unsafe(no_mangle)]
 pub extern "C" fn trunk_version() -> u32
@@ -56,13 +56,22 @@ pub extern "C" fn trunk_check_map(map: &[u8], reply: &mut [u64])
 
 // Order check.
 #[unsafe(no_mangle)]
-pub extern "C" fn trunk_check_order(order: &[u8], junctions: u32, reply: &mut [u64])
-    ensures { OrderCheckCall order.now junctions reply.old reply.new }
+pub extern "C" fn trunk_check_order(
+    order: &[u8],
+    bans: &[u32],
+    junctions: u32,
+    roads: u32,
+    reply: &mut [u64],
+)
+    ensures { OrderCheckCall order.now bans.now junctions roads reply.old reply.new }
 {
     if reply.len() < REPLY_NUMBERS {
         return;
     }
-    put_reply(reply, Reply::from(driving::check_order(order, junctions)));
+    put_reply(
+        reply,
+        Reply::from(moves::check_order(order, bans, junctions, roads)),
+    );
 }
 
 // Planning.
@@ -70,16 +79,20 @@ pub extern "C" fn trunk_check_order(order: &[u8], junctions: u32, reply: &mut [u
 pub extern "C" fn trunk_plan(
     map: &[u8],
     order: &[u8],
+    bans: &[u32],
     words: &mut [u32],
     sheet: &mut [u8],
     reply: &mut [u64],
 )
-    ensures { PlanCall (given_of map.now order.now) words.old words.new sheet.old sheet.new reply.old reply.new }
+    ensures { PlanCall (given_of map.now order.now bans.now) words.old words.new sheet.old sheet.new reply.old reply.new }
 {
     if reply.len() < REPLY_NUMBERS {
         return;
     }
-    put_reply(reply, Reply::from(planner::plan(map, order, words, sheet)));
+    put_reply(
+        reply,
+        Reply::from(planner::plan(map, order, bans, words, sheet)),
+    );
 }
 
 // The preview of a closure.
@@ -87,19 +100,20 @@ pub extern "C" fn trunk_plan(
 pub extern "C" fn trunk_preview(
     map: &[u8],
     order: &[u8],
+    bans: &[u32],
     road: u32,
     words: &mut [u32],
     sheet: &mut [u8],
     reply: &mut [u64],
 )
-    ensures { PreviewCall (given_of map.now order.now) road words.old words.new sheet.old sheet.new reply.old reply.new }
+    ensures { PreviewCall (given_of map.now order.now bans.now) road words.old words.new sheet.old sheet.new reply.old reply.new }
 {
     if reply.len() < REPLY_NUMBERS {
         return;
     }
     put_reply(
         reply,
-        Reply::from(planner::preview(map, order, road, words, sheet)),
+        Reply::from(planner::preview(map, order, bans, road, words, sheet)),
     );
 }
 
@@ -108,27 +122,37 @@ pub extern "C" fn trunk_preview(
 pub extern "C" fn trunk_retime(
     map: &[u8],
     order: &[u8],
+    bans: &[u32],
     sheet: &[u8],
     out: &mut [u8],
     reply: &mut [u64],
 )
-    ensures { RetimeCall (given_of map.now order.now) sheet.now out.old out.new reply.old reply.new }
+    ensures { RetimeCall (given_of map.now order.now bans.now) sheet.now out.old out.new reply.old reply.new }
 {
     if reply.len() < REPLY_NUMBERS {
         return;
     }
-    put_reply(reply, Reply::from(retiming::retime(map, order, sheet, out)));
+    put_reply(
+        reply,
+        Reply::from(retiming::retime(map, order, bans, sheet, out)),
+    );
 }
 
 // Audit.
 #[unsafe(no_mangle)]
-pub extern "C" fn trunk_audit(map: &[u8], order: &[u8], sheet: &[u8], reply: &mut [u64])
-    ensures { AuditCall (given_of map.now order.now) sheet.now reply.old reply.new }
+pub extern "C" fn trunk_audit(
+    map: &[u8],
+    order: &[u8],
+    bans: &[u32],
+    sheet: &[u8],
+    reply: &mut [u64],
+)
+    ensures { AuditCall (given_of map.now order.now bans.now) sheet.now reply.old reply.new }
 {
     if reply.len() < REPLY_NUMBERS {
         return;
     }
-    put_reply(reply, Reply::from(retiming::audit(map, order, sheet)));
+    put_reply(reply, Reply::from(retiming::audit(map, order, bans, sheet)));
 }
 
 // Where in the map the name stands that the reply tells, and how long it is.

@@ -1,4 +1,4 @@
-use Rattle.std.proofs.Common.{◌∙◌, sym, ap, subst, arith}
+use Rattle.std.proofs.Common.{refl, ◌∙◌, sym, ap, subst, arith}
 use Rattle.booleans.proofs.Tests.{true_T}
 use lib.Dec.{T}
 use Rattle.states.specs.declared.State.{State}
@@ -6,12 +6,20 @@ use Rattle.states.specs.States.{covers}
 use Rattle.moves.specs.OpenRuns.{searched_trip}
 use Rattle.candidates.specs.Candidates.{result_at}
 use Rattle.candidates.specs.Trying.{allowed}
-use Rattle.candidates.proofs.Searched.{roads}
+use Rattle.moves.proofs.Rising.{clock_high}
+use Rattle.candidates.proofs.Searched.{sound, roads}
 use Rattle.candidates.proofs.Rivals.{preceded}
 use Rattle.candidates.proofs.leads.Goals as goal
 
 pub allowed-requires : goal.allowed-requires
 allowed-requires c = omega (arith, c.requires.contends.0.1.high, roads c.args.run.now)
+
+-- its road is not banned, so it is entered at once
+pub result_at-requires-clause-enters : goal.result_at-requires-clause-enters
+result_at-requires-clause-enters c =
+    let run = c.args.run.now in
+    let range = c.requires.ranged.0 c.args.by.label c.requires.contends.0.0 c.if-before-by.false in
+    rw (sym c.is_closed.ensures ∙ c.if-is_closed.false, c.read_label-label.ensures) (refl, omega (arith, clock_high _ (sound run) _ range))
 
 pub returns-then-allowed : goal.returns-then-allowed
 returns-then-allowed c told =

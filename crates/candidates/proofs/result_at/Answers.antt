@@ -4,11 +4,11 @@ use Rattle.candidates.proofs.Searched.{sound, roads}
 use Rattle.candidates.proofs.Results.{result_drive, result_pause}
 use Rattle.candidates.proofs.result_at.Goals as goal
 
-pub after_drive-requires-clause-clock_bound : goal.after_drive-requires-clause-clock_bound
-after_drive-requires-clause-clock_bound c = drives_on _ _ _ c.args.state c.args.run.now.accepted c.requires.range_in
+pub after_drive-requires-clause-entry_bound : goal.after_drive-requires-clause-entry_bound
+after_drive-requires-clause-entry_bound c = (c.requires.enters.1, (drives_on _ _ _ c.args.state c.args.run.now.accepted c.requires.range_in).1)
 
 pub returns-then-cursor-roads : goal.returns-then-cursor-roads
-returns-then-cursor-roads c = c.after_drive.ensures ∙ result_drive c.args.run.now c.args.state c.args.cursor c.requires.le_cursor.0 c.if-cursor-roads.true
+returns-then-cursor-roads c = c.after_drive.ensures ∙ result_drive c.args.run.now c.args.state c.args.cursor c.requires.le_cursor.0 c.if-cursor-roads.true _ c.requires.enters.0
 
 pub pause_under-requires : goal.pause_under-requires
 pause_under-requires c = (c.if-cursor-roads.false, omega (arith, c.requires.le_cursor.1, roads c.args.run.now))

@@ -4,7 +4,7 @@ use Rattle.std.proofs.lemmas.Bool.Decides.{nat_tests}
 use Rattle.booleans.proofs.Tests.{not_both}
 use Rattle.labels.specs.Lists.{Says}
 use Rattle.moves.specs.OpenRuns.{searched_trip}
-use Rattle.moves.proofs.Rising.{range_after}
+use Rattle.moves.proofs.Rising.{clock_high, range_after}
 use Rattle.candidates.specs.Candidates.{move_at}
 use Rattle.candidates.proofs.Searched.{tied, sound, roads}
 use Rattle.candidates.proofs.Results.{allowed_offers, names}
@@ -16,6 +16,9 @@ use Rattle.candidates.proofs.weigh.Goals as goal
 
 pub allowed-requires : goal.allowed-requires
 allowed-requires c = omega (arith, c.requires.worth.0.high, roads c.args.run.now)
+
+pub entry_at-entry-requires : goal.entry_at-entry-requires
+entry_at-entry-requires c = clock_high _ (sound c.args.run.now) c.args.search.now.of.state c.requires.range_in
 
 pub returns-then-not-allowed : goal.returns-then-not-allowed
 returns-then-not-allowed c =

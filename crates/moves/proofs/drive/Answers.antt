@@ -1,4 +1,4 @@
-use Rattle.moves.specs.Bans.{listed_in}
+use Rattle.bans.specs.Bans.{listed_in}
 use Rattle.moves.proofs.Trips.{run_tied}
 use Rattle.moves.proofs.Stepped.{drive_by_map}
 use Rattle.moves.proofs.drive.Goals as goal
@@ -13,5 +13,5 @@ pub returns : goal.returns
 returns c =
     let run = c.args.run.now in
     let banned = listed_in run.bans.now in
-    rw (drive_by_map (run_tied run.map.now banned run.about) c.args.state c.args.r, ← c.leaves_road.ensures banned, c.if-not-leaves_road.false, ← c.after_drive.ensures)
+    rw (drive_by_map (run_tied run.map.now banned run.about) c.args.state c.args.r, ← c.leaves_road.ensures banned, c.if-not-leaves_road.false, ← c.after_listed_drive.ensures)
     c.judge.ensures

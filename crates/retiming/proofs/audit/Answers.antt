@@ -15,7 +15,7 @@ returns-in_err-run c =
 pub returns : goal.returns
 unfolding trip_of
 returns c =
-    let given = given_of c.args.map.now c.args.order.now in
+    let given = given_of c.args.map.now c.args.order.now c.args.bans.now in
     c.audit_run.ensures
     ∙ ap (λ (t : Trip). audited_run t c.args.sheet.now) (opened_listed given c.in_ok-run.run' c.in_ok-run.ensures)
     ∙ sym (none_fits (run_tests given) _ _ c.in_ok-run.ensures.2)

@@ -1,5 +1,5 @@
 use Rattle.std.proofs.Common.{◌∙◌, sym}
-use Rattle.moves.specs.Bans.{listed_in}
+use Rattle.bans.specs.Bans.{listed_in}
 use Rattle.moves.specs.OpenRuns.{listed_trip}
 use Rattle.moves.proofs.Trips.{run_tied}
 use Rattle.sheets.proofs.Reading.{whole_sheet}

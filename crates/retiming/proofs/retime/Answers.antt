@@ -7,9 +7,9 @@ use Rattle.retiming.proofs.retime.Goals as goal
 pub returns-in_err-run : goal.returns-in_err-run
 returns-in_err-run c =
     let p = err_from_is_err_and c.from_residual.result c.from_residual.ensures.1 in
-    rw (p.1, p.2) (retimed_unopened (given_of c.args.map.now c.args.order.now) c.args.sheet.now c.args.out.now c.in_err-run.field-0.0 c.in_err-run.ensures)
+    rw (p.1, p.2) (retimed_unopened (given_of c.args.map.now c.args.order.now c.args.bans.now) c.args.sheet.now c.args.out.now c.in_err-run.field-0.0 c.in_err-run.ensures)
 
 pub returns : goal.returns
 returns c =
-    let given = given_of c.args.map.now c.args.order.now in
+    let given = given_of c.args.map.now c.args.order.now c.args.bans.now in
     retimed_opened given c.args.sheet.now c.args.out.now (opened_listed given c.in_ok-run.run' c.in_ok-run.ensures) c.in_ok-run.ensures.2 c.retime_run.ensures

@@ -1,7 +1,7 @@
 use Rattle.std.proofs.Common.{◌∙◌, ap, arith, sym}
 use Rattle.std.proofs.lemmas.Result.{err_from_is_err_and}
 use Rattle.states.specs.States.{start_of}
-use Rattle.moves.specs.Bans.{listed_in}
+use Rattle.bans.specs.Bans.{listed_in}
 use Rattle.moves.proofs.Trips.{run_tied}
 use Rattle.moves.proofs.Rising.{run_sound}
 use Rattle.retiming.proofs.Underway.{underway_start, underway_refused, underway_next, underway_end}

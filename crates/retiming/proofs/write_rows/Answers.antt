@@ -1,6 +1,6 @@
 use Rattle.std.proofs.Common.{false, ◌∙◌, ap, arith, sym}
 use Rattle.states.specs.States.{start_of}
-use Rattle.moves.specs.Bans.{listed_in}
+use Rattle.bans.specs.Bans.{listed_in}
 use Rattle.moves.specs.OpenRuns.{listed_trip}
 use Rattle.moves.proofs.Trips.{run_tied}
 use Rattle.moves.proofs.Rising.{run_sound}

@@ -1,24 +1,17 @@
 -- The test is the definition's: there is a road, and its drive does not lead legally to t.
-use Rattle.std.proofs.Common.{not, ap, ◌∙◌}
+use Rattle.std.proofs.Common.{not, ap}
 use Rattle.std.proofs.lemmas.Bool.{lt-ltb, le-ltb}
-use Rattle.moves.specs.Bans.{listed_in}
-use Rattle.moves.proofs.Stepped.{driven_in}
-use Rattle.moves.proofs.Rising.{drives_on}
 use Rattle.readback.specs.Moving.{passes_by}
 use Rattle.readback.proofs.Listed.{listed_tied}
 use Rattle.readback.proofs.Leading.{drive_leads}
 use Rattle.readback.proofs.Leg.passes_by.Goals as goal
 
-pub after_drive-requires-clause-clock_bound : goal.after_drive-requires-clause-clock_bound
-after_drive-requires-clause-clock_bound c =
-    let run = c.args.self.now.run.now in drives_on run.map.now (listed_in run.bans.now) run.about c.args.self.now.from run.accepted c.args.self.now.in_range
-
 pub returns-then-road-gt0 : goal.returns-then-road-gt0
 unfolding passes_by
 returns-then-road-gt0 c =
     let tied = listed_tied c.args.self.now.run.now in
-    let driven = c.after_drive in
-    rw (lt-ltb 0 c.args.road c.if-road-gt0.true, drive_leads tied c.args.self.now.from c.args.self.now.to c.args.road driven.result (driven.ensures ∙ driven_in tied c.args.self.now.from c.args.road (c.if-road-gt0.true, c.requires)))
+    let driven = c.after_listed_drive in
+    rw (lt-ltb 0 c.args.road c.if-road-gt0.true, drive_leads tied c.args.self.now.from c.args.self.now.to c.args.road driven.result driven.ensures)
     (ap not c.leads_to.ensures)
 
 pub returns-else-road-gt0 : goal.returns-else-road-gt0

@@ -1,5 +1,5 @@
 use Rattle.std.proofs.Common.{◌∙◌, ap, sym}
-use Rattle.moves.specs.Bans.{listed_in}
+use Rattle.bans.specs.Bans.{listed_in}
 use Rattle.moves.specs.Moves.{paused}
 use Rattle.moves.proofs.Rising.{clock_high, range_in}
 use Rattle.readback.proofs.Listed.{listed_tied, listed_sound}
