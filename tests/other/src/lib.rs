@@ -1,5 +1,6 @@
 //! Another planner, written from documents 01 and 02 alone to be held against the proved one.
 
+pub mod calendar;
 pub mod case_probes;
 pub mod chains;
 pub mod closure_probes;

@@ -1,5 +1,6 @@
 //! Tests of this implementation, for `cargo test` and for the program's `self-test`.
 
+mod calendar_cases;
 mod closure_cases;
 mod fixtures;
 mod making;
@@ -97,6 +98,13 @@ pub fn tests() -> Vec<Test> {
         closure_cases::full_and_short_by_the_struck_trip,
         closure_cases::order_of_refusals,
         closure_cases::audits_on_the_struck_map,
+        calendar_cases::easter_of_known_years,
+        calendar_cases::easter_in_its_bounds,
+        calendar_cases::leap_days_and_year_ends,
+        calendar_cases::sundays,
+        calendar_cases::feasts,
+        calendar_cases::gates,
+        calendar_cases::sundays_alone_after_the_last_year,
         making::practice_maps,
         making::pairs_make_nothing_worse,
         making::dominance_by_pairs_agrees,
