@@ -7,7 +7,7 @@ use crate::lettering;
 use crate::make::random::Random;
 use crate::make::{case, Case};
 use crate::operations::Operations;
-use crate::probe::{answer, Probe};
+use crate::probe::{answer, Answer, Probe};
 use crate::report::show_run;
 use crate::special;
 
@@ -39,7 +39,8 @@ fn compare_special(trusted: &Operations, tried: &Operations) -> Result<u64, Diff
     ]
     .concat();
     for probe in &calls {
-        compare_probe(trusted, tried, probe).map_err(|text| Difference { case: 0, text })?;
+        compare_answer(&answer(trusted, probe), tried, probe)
+            .map_err(|text| Difference { case: 0, text })?;
     }
     Ok(calls.len() as u64)
 }
@@ -52,12 +53,34 @@ pub fn compare_random(
 ) -> Result<u64, Difference> {
     let mut calls = 0;
     for number in 1..=count {
-        let case = case(seed, number);
-        let random = &mut marks(seed, number);
-        calls += compare_case(trusted, tried, &case, random)
+        let asked = Asked::of(trusted, seed, number);
+        asked
+            .compare(tried)
             .map_err(|text| Difference { case: number, text })?;
+        calls += asked.calls.len() as u64;
     }
     Ok(calls)
+}
+
+/// For each of several implementations the first random case, from 1, in which it differs, if one does.
+pub fn first_differences(
+    trusted: &Operations,
+    tried: &[Operations],
+    seed: u64,
+    count: u64,
+) -> Vec<Option<u64>> {
+    let mut found = vec![None; tried.len()];
+    for number in 1..=count {
+        let asked = Asked::of(trusted, seed, number);
+        let unfound = tried.iter().zip(&mut found).filter(|(_, at)| at.is_none());
+        for (operations, at) in unfound {
+            *at = asked.compare(operations).is_err().then_some(number);
+        }
+        if found.iter().all(Option::is_some) {
+            break;
+        }
+    }
+    found
 }
 
 /// The generator of a case's marks and lengths, apart from the one that makes the case.
@@ -65,24 +88,39 @@ pub fn marks(seed: u64, number: u64) -> Random {
     Random::new(!seed, number)
 }
 
-fn compare_case(
-    trusted: &Operations,
-    tried: &Operations,
-    case: &Case,
-    random: &mut Random,
-) -> Result<u64, String> {
-    let calls = probes(trusted, case, random);
-    for probe in &calls {
-        compare_probe(trusted, tried, probe)?;
-    }
-    obeyed(tried, case, random).map_err(|complaint| describe_law(&complaint, case))?;
-    Ok(calls.len() as u64)
+/// A case with its calls and what is expected of each.
+struct Asked {
+    case: Case,
+    calls: Vec<(Probe, Answer)>,
+    /// What the laws go on with.
+    random: Random,
 }
 
-fn compare_probe(trusted: &Operations, tried: &Operations, probe: &Probe) -> Result<(), String> {
-    let expected = answer(trusted, probe);
+impl Asked {
+    fn of(trusted: &Operations, seed: u64, number: u64) -> Asked {
+        let case = case(seed, number);
+        let mut random = marks(seed, number);
+        let probes = probes(trusted, &case, &mut random).into_iter();
+        let calls = probes.map(|probe| (probe.clone(), answer(trusted, &probe)));
+        Asked {
+            calls: calls.collect(),
+            case,
+            random,
+        }
+    }
+
+    fn compare(&self, tried: &Operations) -> Result<(), String> {
+        for (probe, expected) in &self.calls {
+            compare_answer(expected, tried, probe)?;
+        }
+        obeyed(tried, &self.case, &mut self.random.clone())
+            .map_err(|complaint| describe_law(&complaint, &self.case))
+    }
+}
+
+fn compare_answer(expected: &Answer, tried: &Operations, probe: &Probe) -> Result<(), String> {
     let seen = answer(tried, probe);
-    if expected == seen {
+    if *expected == seen {
         return Ok(());
     }
     Err(format!(

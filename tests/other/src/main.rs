@@ -5,11 +5,11 @@ use std::panic::catch_unwind;
 use std::process::ExitCode;
 use std::time::Instant;
 
-use other::compare::{compare, compare_random};
+use other::compare::{compare, first_differences};
 use other::listing::listings;
 use other::make::practice::practice_map;
 use other::mapcheck::MOST_JUNCTIONS;
-use other::operations::DOCUMENT;
+use other::operations::{Operations, DOCUMENT};
 use other::self_test::tests;
 use other::summary::summary;
 use other::trials;
@@ -118,11 +118,16 @@ fn compare_with(wrong: Option<&str>, seed: &str, count: &str) -> Result<(), Stri
 
 fn find_wrong_copies(seed: &str, count: &str) -> Result<(), String> {
     let (seed, count): (u64, u64) = (number(seed)?, number(count)?);
+    let copies = wrong_copies();
+    let tried: Vec<Operations> = copies.iter().map(|copy| copy.operations).collect();
     let mut unfound = Vec::new();
-    for copy in wrong_copies() {
-        match compare_random(&DOCUMENT, &copy.operations, seed, count) {
-            Err(difference) => println!("{:>6}  {}", difference.case, copy.name),
-            Ok(_) => unfound.push(copy.name),
+    for (copy, found) in copies
+        .iter()
+        .zip(first_differences(&DOCUMENT, &tried, seed, count))
+    {
+        match found {
+            Some(case) => println!("{case:>6}  {}", copy.name),
+            None => unfound.push(copy.name),
         }
     }
     if unfound.is_empty() {

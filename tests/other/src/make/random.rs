@@ -1,5 +1,6 @@
 //! A seeded generator: xorshift on 64 bits, its result scattered by a multiplication.
 
+#[derive(Clone)]
 pub struct Random(u64);
 
 impl Random {
