@@ -4,13 +4,20 @@ import sys
 import other_planner
 from formats import words
 
+MOST_BANS = 64
 CASES = []  # what the program reads, its line as it is written by hand, whether that is only the line's start
 
 
-def case(kind, title, answer, number=0, label_words=0, trunk=b"", order=b"", sheet=b"", computed=False):
-    """One case; `answer` is what the program must print after the title, or how that starts where the rest is computed."""
+def case(kind, title, answer, number=0, roads=0, label_words=0, trunk=b"", order=b"", bans=(), sheet=b"", computed=False):
+    """One case; `answer` is what the program must print after the title, or how that starts where the rest is computed.
+
+    `bans` are the numbers of its ban list, at most 64, and `roads` the R that an order check is told.
+    """
     given = kind.encode() + bytes([len(title)]) + title.encode()
-    given += words(number, label_words, len(trunk), len(order), len(sheet)) + trunk + order + sheet
+    if len(bans) > MOST_BANS:
+        sys.exit("%s: the program takes at most %d banned roads" % (title, MOST_BANS))
+    parts = [trunk, order, words(*bans), sheet]
+    given += words(number, roads, label_words, *map(len, parts)) + b"".join(parts)
     CASES.append((given, "%s: %s" % (title, answer), computed))
 
 

@@ -50,8 +50,9 @@ def check(title, data, reply):
     case("m", title, reply, trunk=data)
 
 
-def order(title, junctions, data, reply):
-    case("o", title, reply, number=junctions, order=data)
+def order(title, junctions, data, reply, roads=3, bans=()):
+    """R is map T's, if not told otherwise."""
+    case("o", title, reply, number=junctions, roads=roads, order=data, bans=bans)
 
 
 def name(title, number, data, reply, part):

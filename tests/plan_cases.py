@@ -17,17 +17,17 @@ MARK = 0xEEEEEEEE
 LABEL_WORDS = 10
 
 
-def plan(title, trunk, orders, answer, label_words, lent, before=MARK, road=None, computed=False):
+def plan(title, trunk, orders, answer, label_words, lent, before=MARK, road=None, bans=(), computed=False):
     """The sheet lent holds `lent`, and every label word holds `before`. Where a road is given, its closure is previewed."""
     kind, number = ("p", before) if road is None else ("v", road)
-    case(kind, title, answer, number=number, label_words=label_words, trunk=trunk, order=orders, sheet=lent, computed=computed)
+    case(kind, title, answer, number=number, label_words=label_words, trunk=trunk, order=orders, bans=bans, sheet=lent, computed=computed)
 
 
 def unwritten(length):
     return b"\xee" * length
 
 
-def planned(title, trunk, orders, labels, answer, rows, label_words=None, length=None, before=MARK, road=None):
+def planned(title, trunk, orders, labels, answer, rows, label_words=None, length=None, before=MARK, road=None, bans=()):
     """The answer is arrival, spell, shift and, where that is not the shift, week. Room for exactly the plan's labels,
     and a sheet with four bytes more than it needs, if not told otherwise."""
     arrival, spell, shift, *week = answer
@@ -35,18 +35,18 @@ def planned(title, trunk, orders, labels, answer, rows, label_words=None, length
     label_words = LABEL_WORDS * labels if label_words is None else label_words
     lent = unwritten(len(written) + 4 if length is None else length)
     after = written + lent[len(written) :]
-    plan(title, trunk, orders, "0 %d %d %s" % (labels, arrival, after.hex()), label_words, lent, before, road)
+    plan(title, trunk, orders, "0 %d %d %s" % (labels, arrival, after.hex()), label_words, lent, before, road, bans)
 
 
-def refused(title, trunk, orders, number, place, label_words=80, length=80, before=MARK, road=None):
+def refused(title, trunk, orders, number, place, label_words=80, length=80, before=MARK, road=None, bans=()):
     """The sheet stays, and so do the label words where the search has not begun."""
     lent = unwritten(length)
     kept = "" if 12 <= number <= 14 else " kept"
-    plan(title, trunk, orders, "%d %d 0 %s%s" % (number, place, lent.hex(), kept), label_words, lent, before, road)
+    plan(title, trunk, orders, "%d %d 0 %s%s" % (number, place, lent.hex(), kept), label_words, lent, before, road, bans)
 
 
-def computed(title, number, trunk, orders, label_words=2000, length=400, road=None):
-    plan(title, trunk, orders, "%d " % number, label_words, unwritten(length), road=road, computed=True)
+def computed(title, number, trunk, orders, label_words=2000, length=400, road=None, bans=()):
+    plan(title, trunk, orders, "%d " % number, label_words, unwritten(length), road=road, bans=bans, computed=True)
 
 
 def trip_map(parks, roads):

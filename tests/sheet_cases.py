@@ -21,21 +21,21 @@ PLAN = [(DRIVE, 1, 10800), (BREAK, 2, 13500), (DRIVE, 2, 20700)]
 TRUE = sheet(PLAN, 20700, 7200, 18000)
 
 
-def retime(title, trunk, orders, given, length, reply, written=None):
+def retime(title, trunk, orders, given, length, reply, written=None, bans=()):
     """`length` bytes of 0xEE are lent; `written` is the start of what they hold afterwards."""
     before = b"\xee" * length
     after = before if written is None else written + before[len(written) :]
-    case("r", title, reply + " " + after.hex(), number=length, trunk=trunk, order=orders, sheet=given)
+    case("r", title, reply + " " + after.hex(), number=length, trunk=trunk, order=orders, bans=bans, sheet=given)
 
 
-def audit(title, trunk, orders, given, reply):
-    case("a", title, reply, trunk=trunk, order=orders, sheet=given)
+def audit(title, trunk, orders, given, reply, bans=()):
+    case("a", title, reply, trunk=trunk, order=orders, bans=bans, sheet=given)
 
 
-def both(title, trunk, orders, given, reply):
+def both(title, trunk, orders, given, reply, bans=()):
     """A refusal that retiming and audit share; the other sheet stays."""
-    retime("retime: " + title, trunk, orders, given, 60, reply)
-    audit("audit: " + title, trunk, orders, given, reply)
+    retime("retime: " + title, trunk, orders, given, 60, reply, bans=bans)
+    audit("audit: " + title, trunk, orders, given, reply, bans)
 
 
 # --- retiming that succeeds --------------------------------------------------------------------
@@ -134,18 +134,18 @@ BY_PARTS = sheet(PARTS, 20700, 7200, 18000)
 AT_HOME = HOME[:10] + EUROPE_SPLIT[10:]
 
 
-def timed(title, trunk, orders, rows, arrival, spell, shift, week=None):
+def timed(title, trunk, orders, rows, arrival, spell, shift, week=None, bans=()):
     """Moves that retiming writes, whatever clocks it is given, and that audit accepts."""
     written = sheet(rows, arrival, spell, shift, week=week)
     given = sheet([(kind, number, 0) for kind, number, _ in rows])
     reply = "0 %d %d" % (len(rows), arrival)
-    retime("retime: " + title, trunk, orders, given, len(written), reply, written)
-    audit("audit: " + title, trunk, orders, written, reply)
+    retime("retime: " + title, trunk, orders, given, len(written), reply, written, bans)
+    audit("audit: " + title, trunk, orders, written, reply, bans)
 
 
-def foreign(title, trunk, orders, rows, move):
+def foreign(title, trunk, orders, rows, move, bans=()):
     """The clocks before the foreign move are true, so that audit comes to it too."""
-    both(title, trunk, orders, sheet(rows), "16 %d 0" % move)
+    both(title, trunk, orders, sheet(rows), "16 %d 0" % move, bans)
 
 
 timed("a first part, then a second", T, SPLIT, PARTS, 20700, 7200, 18000)

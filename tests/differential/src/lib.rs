@@ -6,16 +6,25 @@ use trunk::{Figures, Planned, Refused, Rules, Timed};
 
 pub const LIBRARY: Operations = Operations {
     check_map: |map| told(trunk::check_map(map), |()| (0, 0)),
-    check_order: |order, junctions| told(trunk::check_order(order, junctions), |()| (0, 0)),
-    plan: |map, order, words, sheet| told(trunk::plan(map, order, words, sheet), planned),
-    retime: |map, order, sheet, out| told(trunk::retime(map, order, sheet, out), timed),
-    audit: |map, order, sheet| told(trunk::audit(map, order, sheet), timed),
+    check_order: |order, bans, junctions, roads| {
+        told(trunk::check_order(order, bans, junctions, roads), |()| {
+            (0, 0)
+        })
+    },
+    plan: |map, order, bans, words, sheet| {
+        told(trunk::plan(map, order, bans, words, sheet), planned)
+    },
+    retime: |map, order, bans, sheet, out| told(trunk::retime(map, order, bans, sheet, out), timed),
+    audit: |map, order, bans, sheet| told(trunk::audit(map, order, bans, sheet), timed),
     name: named,
     make_chains: |map| told(trunk::make_chains(map), |()| (0, 0)),
     replay: replayed,
     strike: |map, road| told(trunk::strike(map, road), |()| (0, 0)),
-    preview: |map, order, road, words, sheet| {
-        told(trunk::preview(map, order, road, words, sheet), planned)
+    preview: |map, order, bans, road, words, sheet| {
+        told(
+            trunk::preview(map, order, bans, road, words, sheet),
+            planned,
+        )
     },
 };
 

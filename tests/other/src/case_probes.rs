@@ -2,7 +2,9 @@
 
 use std::collections::BTreeSet;
 
+use crate::ban_probes;
 use crate::closure_probes;
+use crate::make::closures::road_count;
 use crate::make::orders::MOST_STATES;
 use crate::make::random::Random;
 use crate::make::traces::Replay;
@@ -42,14 +44,13 @@ pub fn probes(trusted: &Operations, case: &Case, random: &mut Random) -> Vec<Pro
     for map in case.spoilt_maps.iter().chain([&case.run.map]) {
         probes.extend(map_probes(random, map));
     }
-    let junctions = junction_count(&case.run.map);
     for order in case.orders() {
-        probes.extend(order_probes(order, junctions));
+        probes.extend(order_probes(order, &case.run));
     }
     for timing in &case.timings {
         let run = Run {
-            map: case.run.map.clone(),
             order: timing.order.clone(),
+            ..case.run.clone()
         };
         probes.extend(sheet_probes(random, &run, &timing.sheet));
     }
@@ -58,6 +59,7 @@ pub fn probes(trusted: &Operations, case: &Case, random: &mut Random) -> Vec<Pro
     }
     probes.extend(case.replays.iter().map(Replay::probe));
     probes.extend(closure_probes::probes(trusted, case, random));
+    probes.extend(ban_probes::probes(case, random));
     probes
 }
 
@@ -92,7 +94,7 @@ fn scrambled_links(random: &mut Random, map: &[u8]) -> Vec<u8> {
 }
 
 /// J as the map has it, spoilt or not; 1 where it is too short to have one.
-fn junction_count(map: &[u8]) -> u64 {
+pub fn junction_count(map: &[u8]) -> u64 {
     if map.len() < 16 {
         1
     } else {
@@ -115,7 +117,8 @@ fn name_probes(random: &mut Random, map: &[u8]) -> Vec<Probe> {
 
 /// The order check with the map's J, the order's source and its target as J, one less than each, and
 /// the least and the greatest J.
-fn order_probes(order: &[u8], junctions: u64) -> Vec<Probe> {
+fn order_probes(order: &[u8], run: &Run) -> Vec<Probe> {
+    let junctions = junction_count(&run.map);
     let ends = order.chunks_exact(4).take(2).map(|end| word(end, 0));
     let counts: BTreeSet<u64> = ends
         .chain([junctions])
@@ -124,7 +127,9 @@ fn order_probes(order: &[u8], junctions: u64) -> Vec<Probe> {
         .collect();
     let probe = |count| Probe::CheckOrder {
         order: order.to_vec(),
+        bans: run.bans.clone(),
         junctions: count as u32,
+        roads: road_count(&run.map) as u32,
     };
     counts.into_iter().map(probe).collect()
 }

@@ -18,7 +18,12 @@ pub fn ample_preview(random: &mut Random, closure: &Closure) -> Probe {
     preview_in(random, closure, label_words, sheet_bytes(MOST_STATES))
 }
 
-fn preview_in(random: &mut Random, closure: &Closure, label_words: usize, bytes: usize) -> Probe {
+pub fn preview_in(
+    random: &mut Random,
+    closure: &Closure,
+    label_words: usize,
+    bytes: usize,
+) -> Probe {
     Probe::Preview {
         run: closure.run.clone(),
         road: closure.road,
@@ -33,10 +38,15 @@ pub fn probes(trusted: &Operations, case: &Case, random: &mut Random) -> Vec<Pro
     let mut probes = Vec::new();
     for map in case.spoilt_maps.iter().chain([&case.run.map]) {
         probes.extend(strike_probes(random, map));
-        probes.extend(refused_probe(random, map, &case.run.order));
+        probes.extend(refused_probe(random, map, &case.run.order, &case.run.bans));
     }
     for timing in &case.timings {
-        probes.extend(refused_probe(random, &case.run.map, &timing.order));
+        probes.extend(refused_probe(
+            random,
+            &case.run.map,
+            &timing.order,
+            &case.run.bans,
+        ));
     }
     for closure in &case.closures {
         probes.push(Probe::Strike {
@@ -61,8 +71,8 @@ fn strike_probes(random: &mut Random, map: &[u8]) -> Vec<Probe> {
 
 /// Of a run that is refused: the preview of a number that no road has, which is judged later, or of the
 /// bad road, since striking it could mend it.
-fn refused_probe(random: &mut Random, map: &[u8], order: &[u8]) -> Option<Probe> {
-    let refused = Trip::open(map, order).err()?;
+fn refused_probe(random: &mut Random, map: &[u8], order: &[u8], bans: &[u32]) -> Option<Probe> {
+    let refused = Trip::open(map, order, bans).err()?;
     let unknown = unknown_road(random, road_count(map));
     let number = match refused.number {
         BAD_ROAD => random.pick(&[refused.place, unknown]),
@@ -72,6 +82,7 @@ fn refused_probe(random: &mut Random, map: &[u8], order: &[u8]) -> Option<Probe>
         run: Run {
             map: map.to_vec(),
             order: order.to_vec(),
+            bans: bans.to_vec(),
         },
         road: number as u32,
     };

@@ -1,7 +1,9 @@
 //! Trips on a grid whose roads all take the same time, so that a junction is reached from several sides at one clock. It
 //! has more junctions than the library's small arrays have entries, and so near a latest that few states are reachable.
-//! The first of them are also previewed with a road closed.
+//! The first of them are also previewed with a road closed, and planned on a Sunday evening with every
+//! road banned.
 
+use crate::calendar::{DAY_SECONDS, OPENING};
 use crate::make::sketch::closed_grid;
 use crate::make::Run;
 use crate::order::{Order, RuleWords, EUROPEAN_RULES};
@@ -24,6 +26,9 @@ const CLOSED: u32 = 1;
 /// Those to the first target without a split.
 const PREVIEWS: usize = 2;
 
+/// So many roads could be driven before 22:00.
+const ROADS_TO_OPENING: u64 = 3;
+
 /// A break takes as long as six roads; with a split, its parts take as long as two and four.
 const NO_SPLIT: RuleWords = {
     let mut rules = EUROPEAN_RULES;
@@ -36,10 +41,7 @@ const TIRED: u64 = EUROPEAN_RULES[0] - 5 * ROAD_SECONDS;
 
 pub fn probes() -> Vec<Probe> {
     let map = closed_grid(SIDE, || METRES).bytes();
-    let run = |order: &Order| Run {
-        map: map.clone(),
-        order: order.bytes(),
-    };
+    let run = |order: &Order| Run::without_bans(map.clone(), order.bytes());
     let labels = vec![0xA5A5_A5A5; WORDS_OF_A_LABEL * AMPLE_LABELS];
     let sheet = vec![0xEE; sheet_bytes(MOST_ROADS_DRIVEN as usize)];
     let plan = |order: &Order| Probe::Plan {
@@ -53,11 +55,31 @@ pub fn probes() -> Vec<Probe> {
         labels: labels.clone(),
         sheet: sheet.clone(),
     };
+    let on_sunday = |order: &Order| Probe::Plan {
+        run: Run {
+            bans: (1..=4 * (SIDE * SIDE) as u32).collect(),
+            ..run(&begun_before_an_opening(order))
+        },
+        labels: labels.clone(),
+        sheet: sheet.clone(),
+    };
     let orders = orders();
+    let near = &orders[..PREVIEWS];
     let plans = orders.iter().map(plan);
     plans
-        .chain(orders[..PREVIEWS].iter().map(preview))
+        .chain(near.iter().map(preview))
+        .chain(near.iter().map(on_sunday))
         .collect()
+}
+
+/// Begun on a Sunday evening.
+fn begun_before_an_opening(order: &Order) -> Order {
+    let departure = DAY_SECONDS + OPENING - ROADS_TO_OPENING * ROAD_SECONDS;
+    Order {
+        departure,
+        latest: departure + order.latest,
+        ..order.clone()
+    }
 }
 
 /// To each target, with a split and without, rested and after some hours.

@@ -1,6 +1,7 @@
 //! Laws between replies of one implementation: label space is free, demand 3, a trace may be
-//! replayed in two parts, and what a closure changes.
+//! replayed in two parts, what a closure changes, and what a ban list does.
 
+mod bans;
 mod closures;
 
 use crate::case_probes::{ample_plan, label_count, marked_words, AMPLE_WORDS};
@@ -29,7 +30,7 @@ pub fn obeyed(operations: &Operations, case: &Case, random: &mut Random) -> Resu
     for closure in &case.closures {
         closures::obeyed(operations, closure, random)?;
     }
-    Ok(())
+    bans::obeyed(operations, case, random)
 }
 
 /// Runs that differ only in label space, none of them full, have equal replies and sheets.

@@ -1,5 +1,7 @@
 //! Another planner, written from documents 01 and 02 alone to be held against the proved one.
 
+pub mod ban_probes;
+pub mod bans;
 pub mod calendar;
 pub mod case_probes;
 pub mod chains;

@@ -23,15 +23,15 @@ pub fn listings(mut trips: &[u8]) -> String {
     text
 }
 
-/// The listing of a map and an order, which are not too big for the program.
+/// The listing of a map and an order, which are not too big for the program. It lends an empty ban list.
 pub fn listing(map: &[u8], order: &[u8]) -> String {
     let mut labels = vec![0; WORDS_OF_A_LABEL * LABELS];
     let mut lent = vec![0; sheet_bytes(LABELS)];
-    let reply = plan::<Document>(map, order, &mut labels, &mut lent);
+    let reply = plan::<Document>(map, order, &[], &mut labels, &mut lent);
     if reply.number != 0 {
         return format!("refused {} {}\n", reply.number, reply.place);
     }
-    let trip = Trip::open(map, order).expect("a planned trip is accepted");
+    let trip = Trip::open(map, order, &[]).expect("a planned trip is accepted");
     let written = sheet_bytes(word(&lent, 0) as usize);
     let sheet = Sheet::read(&lent[..written]).expect("a plan's sheet");
     let moves = sheet.records.iter().map(|record| move_line(&trip, record));

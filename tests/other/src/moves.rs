@@ -1,5 +1,7 @@
 //! States, the moves that the rules offer, and which of them are legal.
 
+use crate::bans::accepted_bans;
+use crate::calendar;
 use crate::map::Map;
 use crate::mapcheck::accepted_map;
 use crate::order::{accepted_order, Order};
@@ -51,19 +53,34 @@ pub struct Move {
     pub number: u64,
 }
 
-/// An accepted map with an accepted order.
+/// An accepted map with an accepted order and ban list.
 #[derive(Clone, Debug)]
 pub struct Trip {
     pub map: Map,
     pub order: Order,
+    /// The numbers of the banned roads.
+    pub bans: Vec<u32>,
+}
+
+/// Map and order, unless one of refusals 1 to 11 fits.
+pub fn accepted_run(map: &[u8], order: &[u8]) -> Result<(Map, Order), Reply> {
+    let map = accepted_map(map)?;
+    let order = accepted_order(order, map.junctions.len() as u64)?;
+    Ok((map, order))
 }
 
 impl Trip {
-    /// Refusals 1 to 11.
-    pub fn open(map: &[u8], order: &[u8]) -> Result<Trip, Reply> {
-        let map = accepted_map(map)?;
-        let order = accepted_order(order, map.junctions.len() as u64)?;
-        Ok(Trip { map, order })
+    /// Refusals 1 to 11 and 25.
+    pub fn open(map: &[u8], order: &[u8], bans: &[u32]) -> Result<Trip, Reply> {
+        let (map, order) = accepted_run(map, order)?;
+        let bans = accepted_bans(bans, map.roads.len() as u64)?.to_vec();
+        Ok(Trip { map, order, bans })
+    }
+
+    /// A trip that meets no banned road.
+    pub fn without_bans(map: Map, order: Order) -> Trip {
+        let bans = Vec::new();
+        Trip { map, order, bans }
     }
 
     pub fn start(&self) -> State {
@@ -131,13 +148,26 @@ impl Trip {
         }
         let road = self.map.road(number);
         (road.from == state.junction).then(|| State {
-            clock: state.clock + road.time(),
+            clock: self.entry(state, number) + road.time(),
             spell: state.spell + road.time(),
             shift: state.shift + road.time(),
             week: state.week + road.time(),
             junction: road.to,
             ..*state
         })
+    }
+
+    /// When a lorry in this state enters a road: a queue before it adds to nothing but the clock.
+    fn entry(&self, state: &State, number: u64) -> u64 {
+        if self.is_banned(number) {
+            calendar::entry(state.clock)
+        } else {
+            state.clock
+        }
+    }
+
+    pub fn is_banned(&self, number: u64) -> bool {
+        self.bans.iter().any(|banned| u64::from(*banned) == number)
     }
 
     fn may_pause(&self, state: &State, number: u64) -> bool {

@@ -10,14 +10,20 @@ use crate::{chains, mapcheck, names, order, retiming, striking};
 /// The reply, and the name's offset in the map and its length; both 0 beside a refusal.
 pub type NameAnswer = (Reply, usize, usize);
 
-/// Takes map, order, label words and sheet.
-pub type PlanFunction = fn(&[u8], &[u8], &mut [u32], &mut [u8]) -> Reply;
+/// Takes map, order, ban list, label words and sheet.
+pub type PlanFunction = fn(&[u8], &[u8], &[u32], &mut [u32], &mut [u8]) -> Reply;
 
-/// Takes map, order, road, label words and sheet. The map is only read; whoever writes it all the same shall be seen.
-pub type PreviewFunction = fn(&mut [u8], &[u8], u32, &mut [u32], &mut [u8]) -> Reply;
+/// Takes map, order, ban list, road, label words and sheet. The map is only read; whoever writes it all the same shall be seen.
+pub type PreviewFunction = fn(&mut [u8], &[u8], &[u32], u32, &mut [u32], &mut [u8]) -> Reply;
 
-/// Takes map, order, sheet and the other sheet.
-pub type RetimeFunction = fn(&[u8], &[u8], &[u8], &mut [u8]) -> Reply;
+/// Takes map, order, ban list, sheet and the other sheet.
+pub type RetimeFunction = fn(&[u8], &[u8], &[u32], &[u8], &mut [u8]) -> Reply;
+
+/// Takes map, order, ban list and sheet.
+pub type AuditFunction = fn(&[u8], &[u8], &[u32], &[u8]) -> Reply;
+
+/// Takes order, ban list, J and R.
+pub type CheckOrderFunction = fn(&[u8], &[u32], u32, u32) -> Reply;
 
 /// Words 6 to 13 of an order.
 pub type LentRules = [u32; 8];
@@ -31,10 +37,10 @@ pub type ReplayFunction = fn(&[u8], LentRules, &mut LentFigures) -> Reply;
 #[derive(Clone, Copy)]
 pub struct Operations {
     pub check_map: fn(map: &[u8]) -> Reply,
-    pub check_order: fn(order: &[u8], junctions: u32) -> Reply,
+    pub check_order: CheckOrderFunction,
     pub plan: PlanFunction,
     pub retime: RetimeFunction,
-    pub audit: fn(map: &[u8], order: &[u8], sheet: &[u8]) -> Reply,
+    pub audit: AuditFunction,
     pub name: fn(map: &[u8], junction: u32) -> NameAnswer,
     pub make_chains: fn(map: &mut [u8]) -> Reply,
     pub replay: ReplayFunction,
@@ -53,5 +59,7 @@ pub const DOCUMENT: Operations = Operations {
     make_chains: chains::make_chains,
     replay: replay::<Document>,
     strike: striking::strike,
-    preview: |map, order, road, labels, sheet| striking::preview(map, order, road, labels, sheet),
+    preview: |map, order, bans, road, labels, sheet| {
+        striking::preview(map, order, bans, road, labels, sheet)
+    },
 };

@@ -1,5 +1,6 @@
-//! The order and refusals 9 to 11.
+//! The order and refusals 9 to 11, and the check of an order with its ban list.
 
+use crate::bans::accepted_bans;
 use crate::reply::*;
 use crate::words::word;
 
@@ -152,8 +153,10 @@ impl Order {
     }
 }
 
-pub fn check_order(bytes: &[u8], junctions: u32) -> Reply {
-    told(accepted_order(bytes, u64::from(junctions)).map(|_| Reply::success(0, 0)))
+pub fn check_order(bytes: &[u8], bans: &[u32], junctions: u32, roads: u32) -> Reply {
+    let judged = accepted_order(bytes, u64::from(junctions))
+        .and_then(|_| accepted_bans(bans, u64::from(roads)));
+    told(judged.map(|_| Reply::success(0, 0)))
 }
 
 /// The order, unless one of refusals 9 to 11 fits.

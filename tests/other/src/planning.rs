@@ -42,8 +42,14 @@ pub trait Planner: Offer {
 
 impl Planner for Document {}
 
-pub fn plan<P: Planner>(map: &[u8], order: &[u8], labels: &mut [u32], sheet: &mut [u8]) -> Reply {
-    told(planned::<P>(map, order, labels.len(), sheet))
+pub fn plan<P: Planner>(
+    map: &[u8],
+    order: &[u8],
+    bans: &[u32],
+    labels: &mut [u32],
+    sheet: &mut [u8],
+) -> Reply {
+    told(planned::<P>(map, order, bans, labels.len(), sheet))
 }
 
 pub fn labels_that_fit(words: usize) -> usize {
@@ -53,10 +59,11 @@ pub fn labels_that_fit(words: usize) -> usize {
 fn planned<P: Planner>(
     map: &[u8],
     order: &[u8],
+    bans: &[u32],
     label_words: usize,
     sheet: &mut [u8],
 ) -> Result<Reply, Reply> {
-    let trip = Trip::open(map, order)?;
+    let trip = Trip::open(map, order, bans)?;
     let reachable = reachable_states::<P>(&trip);
     let answer = answer_of::<P>(&trip, &reachable);
     let labels = labels_of::<P>(&reachable, answer);

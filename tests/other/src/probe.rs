@@ -13,7 +13,9 @@ pub enum Probe {
     },
     CheckOrder {
         order: Vec<u8>,
+        bans: Vec<u32>,
         junctions: u32,
+        roads: u32,
     },
     Plan {
         run: Run,
@@ -85,16 +87,21 @@ impl Answer {
 pub fn answer(operations: &Operations, probe: &Probe) -> Answer {
     match probe {
         Probe::CheckMap { map } => Answer::of((operations.check_map)(map)),
-        Probe::CheckOrder { order, junctions } => {
-            Answer::of((operations.check_order)(order, *junctions))
-        }
+        Probe::CheckOrder {
+            order,
+            bans,
+            junctions,
+            roads,
+        } => Answer::of((operations.check_order)(order, bans, *junctions, *roads)),
         Probe::Plan { run, labels, sheet } => answer_plan(operations, run, labels, sheet),
         Probe::Retime { run, sheet, out } => {
             let mut lent = Lent::new(out, 0xA5);
-            let reply = (operations.retime)(&run.map, &run.order, sheet, lent.content());
+            let reply = (operations.retime)(&run.map, &run.order, &run.bans, sheet, lent.content());
             written(reply, lent)
         }
-        Probe::Audit { run, sheet } => Answer::of((operations.audit)(&run.map, &run.order, sheet)),
+        Probe::Audit { run, sheet } => {
+            Answer::of((operations.audit)(&run.map, &run.order, &run.bans, sheet))
+        }
         Probe::Name { map, junction } => {
             let (reply, offset, length) = (operations.name)(map, *junction);
             Answer {
@@ -128,7 +135,7 @@ pub fn answer(operations: &Operations, probe: &Probe) -> Answer {
 
 fn answer_plan(operations: &Operations, run: &Run, labels: &[u32], sheet: &[u8]) -> Answer {
     answer_search(labels, sheet, |labels, sheet| {
-        (operations.plan)(&run.map, &run.order, labels, sheet)
+        (operations.plan)(&run.map, &run.order, &run.bans, labels, sheet)
     })
 }
 
@@ -141,7 +148,7 @@ fn answer_preview(
 ) -> Answer {
     let mut map = Lent::new(&run.map, 0xA5);
     let answer = answer_search(labels, sheet, |labels, sheet| {
-        (operations.preview)(map.content(), &run.order, road, labels, sheet)
+        (operations.preview)(map.content(), &run.order, &run.bans, road, labels, sheet)
     });
     Answer {
         map_kept: map.is_unchanged(),

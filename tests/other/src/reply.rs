@@ -26,7 +26,7 @@ impl Reply {
 
     /// Whether planning or a preview refused before its search, and so leaves the label space as it was.
     pub fn is_before_search(&self) -> bool {
-        matches!(self.number, SHORT_MAP..=BAD_TRIP | UNKNOWN_ROAD)
+        matches!(self.number, SHORT_MAP..=BAD_TRIP | UNKNOWN_ROAD | BAD_BANS)
     }
 }
 
@@ -59,3 +59,4 @@ pub const TORN_TRACE: u64 = 21;
 pub const ODD_RECORD: u64 = 22;
 pub const PAST_LIMIT: u64 = 23;
 pub const UNKNOWN_ROAD: u64 = 24;
+pub const BAD_BANS: u64 = 25;

@@ -27,9 +27,15 @@ impl Probe {
         let mut text = format!("operation: {}\n", self.operation());
         match self {
             Probe::CheckMap { map } | Probe::MakeChains { map } => show(&mut text, "map", map),
-            Probe::CheckOrder { order, junctions } => {
+            Probe::CheckOrder {
+                order,
+                bans,
+                junctions,
+                roads,
+            } => {
                 show(&mut text, "order", order);
-                let _ = writeln!(text, "junctions: {junctions}");
+                let _ = writeln!(text, "ban list: {bans:?}");
+                let _ = writeln!(text, "junctions: {junctions}, roads: {roads}");
             }
             Probe::Plan { run, labels, sheet } => {
                 show_run(&mut text, run);
@@ -99,6 +105,8 @@ impl Answer {
 pub fn show_run(text: &mut String, run: &Run) {
     show(text, "map", &run.map);
     show(text, "order", &run.order);
+    let shown = &run.bans[..run.bans.len().min(MOST_SHOWN)];
+    let _ = writeln!(text, "ban list ({} numbers): {shown:?}", run.bans.len());
 }
 
 /// The longest bytes shown whole; random cases stay below it.

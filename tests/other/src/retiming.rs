@@ -4,21 +4,28 @@ use crate::moves::{Offer, State, Trip};
 use crate::reply::*;
 use crate::sheet::{Record, Sheet};
 
-pub fn retime<O: Offer>(map: &[u8], order: &[u8], sheet: &[u8], out: &mut [u8]) -> Reply {
-    told(retimed::<O>(map, order, sheet, out))
+pub fn retime<O: Offer>(
+    map: &[u8],
+    order: &[u8],
+    bans: &[u32],
+    sheet: &[u8],
+    out: &mut [u8],
+) -> Reply {
+    told(retimed::<O>(map, order, bans, sheet, out))
 }
 
-pub fn audit<O: Offer>(map: &[u8], order: &[u8], sheet: &[u8]) -> Reply {
-    told(audited::<O>(map, order, sheet))
+pub fn audit<O: Offer>(map: &[u8], order: &[u8], bans: &[u32], sheet: &[u8]) -> Reply {
+    told(audited::<O>(map, order, bans, sheet))
 }
 
 fn retimed<O: Offer>(
     map: &[u8],
     order: &[u8],
+    bans: &[u32],
     sheet: &[u8],
     out: &mut [u8],
 ) -> Result<Reply, Reply> {
-    let (trip, given) = opened(map, order, sheet)?;
+    let (trip, given) = opened(map, order, bans, sheet)?;
     let ignore_clock = |_: u64, _: &Record, _: &State| Ok(());
     let states = walk::<O>(&trip, &given, ignore_clock)?;
     let end = reached_target(&trip, &states)?;
@@ -34,8 +41,8 @@ fn retimed<O: Offer>(
     Ok(succeeded(&given, &end))
 }
 
-fn audited<O: Offer>(map: &[u8], order: &[u8], sheet: &[u8]) -> Result<Reply, Reply> {
-    let (trip, given) = opened(map, order, sheet)?;
+fn audited<O: Offer>(map: &[u8], order: &[u8], bans: &[u32], sheet: &[u8]) -> Result<Reply, Reply> {
+    let (trip, given) = opened(map, order, bans, sheet)?;
     let compare_clock = |number: u64, record: &Record, after: &State| {
         if record.clock == after.clock {
             Ok(())
@@ -53,9 +60,9 @@ fn audited<O: Offer>(map: &[u8], order: &[u8], sheet: &[u8]) -> Result<Reply, Re
     Ok(succeeded(&given, &end))
 }
 
-/// Refusals 1 to 11 and 15.
-fn opened(map: &[u8], order: &[u8], sheet: &[u8]) -> Result<(Trip, Sheet), Reply> {
-    let trip = Trip::open(map, order)?;
+/// Refusals 1 to 11, 25 and 15.
+fn opened(map: &[u8], order: &[u8], bans: &[u32], sheet: &[u8]) -> Result<(Trip, Sheet), Reply> {
+    let trip = Trip::open(map, order, bans)?;
     let torn = Reply::refused(TORN_SHEET, sheet.len() as u64);
     Ok((trip, Sheet::read(sheet).ok_or(torn)?))
 }

@@ -1,5 +1,6 @@
 //! Single large calls that random cases never make: the greatest counts, and one more.
 
+use crate::calendar::{DAY_SECONDS, OPENING};
 use crate::case_probes::AMPLE_WORDS;
 use crate::make::orders::tame;
 use crate::make::practice::{practice_map, USUAL_START};
@@ -18,6 +19,7 @@ use crate::words::bytes_of;
 pub fn probes() -> Vec<Probe> {
     let mut probes = largest_map_probes();
     probes.extend(oversize_map_probes());
+    probes.extend(longest_list_probes());
     probes.extend(longest_sheet_probes());
     probes.push(label_space_to_spare());
     probes.push(shared_chain());
@@ -53,6 +55,35 @@ fn largest_map_probes() -> Vec<Probe> {
         probes.push(Probe::CheckMap { map: map.bytes() });
     }
     probes
+}
+
+/// Every road of the largest map banned on a Sunday, and the last one twice.
+fn longest_list_probes() -> [Probe; 3] {
+    let departure = DAY_SECONDS;
+    let order = Order {
+        departure,
+        latest: departure + OPENING + 1_000,
+        ..order_to_the_last_junction()
+    };
+    let all: Vec<u32> = (1..=MOST_ROADS as u32).collect();
+    let mut last_twice = all.clone();
+    last_twice[MOST_ROADS as usize - 2] = MOST_ROADS as u32;
+    let check = |bans: &[u32]| Probe::CheckOrder {
+        order: order.bytes(),
+        bans: bans.to_vec(),
+        junctions: MOST_JUNCTIONS as u32,
+        roads: MOST_ROADS as u32,
+    };
+    let plan = Probe::Plan {
+        run: Run {
+            map: wide_map(MOST_JUNCTIONS, MOST_ROADS).bytes(),
+            order: order.bytes(),
+            bans: all.clone(),
+        },
+        labels: vec![0xA5A5_A5A5; AMPLE_WORDS],
+        sheet: vec![0xEE; 1_000],
+    };
+    [check(&all), check(&last_twice), plan]
 }
 
 /// Whole maps, sound but for one junction or one road too many.
@@ -124,10 +155,7 @@ fn order_to_the_last_junction() -> Order {
 /// With the last road struck, road 28,672 takes its place: 12,289 metres.
 fn preview_of_the_last_road(map: Vec<u8>) -> Probe {
     Probe::Preview {
-        run: Run {
-            map,
-            order: order_to_the_last_junction().bytes(),
-        },
+        run: Run::without_bans(map, order_to_the_last_junction().bytes()),
         road: MOST_ROADS as u32,
         labels: vec![0xA5A5_A5A5; AMPLE_WORDS],
         sheet: vec![0xEE; 1_000],
@@ -136,10 +164,7 @@ fn preview_of_the_last_road(map: Vec<u8>) -> Probe {
 
 fn plan_with_ample_space(map: Vec<u8>, order: &Order) -> Probe {
     Probe::Plan {
-        run: Run {
-            map,
-            order: order.bytes(),
-        },
+        run: Run::without_bans(map, order.bytes()),
         labels: vec![0xA5A5_A5A5; AMPLE_WORDS],
         sheet: vec![0xEE; 1_000],
     }
@@ -157,10 +182,7 @@ fn european_order() -> Order {
 
 /// As many drives round a road of one second as a sheet may hold, and one more.
 fn longest_sheet_probes() -> Vec<Probe> {
-    let run = Run {
-        map: round_trip_map().bytes(),
-        order: patient_order().bytes(),
-    };
+    let run = Run::without_bans(round_trip_map().bytes(), patient_order().bytes());
     let mut probes = Vec::new();
     for moves in [MOST_MOVES, MOST_MOVES + 1] {
         let sheet = round_trips(moves).bytes();
@@ -247,10 +269,7 @@ fn label_space_to_spare() -> Probe {
         ..patient_order()
     };
     Probe::Plan {
-        run: Run {
-            map: round_trip_map().bytes(),
-            order: order.bytes(),
-        },
+        run: Run::without_bans(round_trip_map().bytes(), order.bytes()),
         labels: vec![0xA5A5_A5A5; WORDS_OF_A_LABEL * (MOST_LABELS + 1)],
         sheet: vec![0xEE; 25],
     }
@@ -330,14 +349,13 @@ fn long_trace() -> Vec<(u64, u64)> {
 
 /// The largest practice map, with so near a latest that few states are reachable.
 fn largest_practice_map() -> Probe {
-    let mut trip = Trip {
-        map: practice_map(MOST_JUNCTIONS, USUAL_START),
-        order: Order {
-            target: 4,
-            latest: 30_000,
-            ..european_order()
-        },
+    let map = practice_map(MOST_JUNCTIONS, USUAL_START);
+    let order = Order {
+        target: 4,
+        latest: 30_000,
+        ..european_order()
     };
+    let mut trip = Trip::without_bans(map, order);
     tame(&mut trip);
     plan_with_ample_space(trip.map.bytes(), &trip.order)
 }

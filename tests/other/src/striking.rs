@@ -2,7 +2,7 @@
 
 use crate::map::Map;
 use crate::mapcheck::accepted_map;
-use crate::moves::{Document, Trip};
+use crate::moves::{accepted_run, Document};
 use crate::planning::plan;
 use crate::reply::*;
 
@@ -26,15 +26,22 @@ fn struck_map(bytes: &[u8], number: u64) -> Result<Map, Reply> {
     Ok(map)
 }
 
-/// What planning answers and writes on a copy of the map in which the road is struck.
-pub fn preview(map: &[u8], order: &[u8], road: u32, labels: &mut [u32], sheet: &mut [u8]) -> Reply {
-    if let Err(refused) = Trip::open(map, order) {
+/// What planning answers and writes on a copy of the map in which the road is struck. The road keeps its ban.
+pub fn preview(
+    map: &[u8],
+    order: &[u8],
+    bans: &[u32],
+    road: u32,
+    labels: &mut [u32],
+    sheet: &mut [u8],
+) -> Reply {
+    if let Err(refused) = accepted_run(map, order) {
         return refused;
     }
     let mut copy = map.to_vec();
     let struck = strike(&mut copy, road);
     match struck.number {
-        0 => plan::<Document>(&copy, order, labels, sheet),
+        0 => plan::<Document>(&copy, order, bans, labels, sheet),
         _ => struck,
     }
 }

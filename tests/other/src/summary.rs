@@ -7,13 +7,13 @@ use crate::case_probes::{ample_plan, label_count, probes};
 use crate::compare::marks;
 use crate::make::random::Random;
 use crate::make::{case, Run};
-use crate::moves::{Document, Trip, DRIVE, WEEKLY};
+use crate::moves::{Document, Move, Trip, BREAK, DRIVE, FIRST, SECOND, WEEKLY};
 use crate::operations::{LentRules, DOCUMENT};
 use crate::order::LONGEST_RULE;
-use crate::planning::{answer_of, reachable_states, reaches_at_most};
+use crate::planning::{answer_of, reachable_states, reaches_at_most, records_of};
 use crate::probe::{answer, Answer, Probe};
-use crate::reply::{Reply, BAD_RULES, BAD_TRIP, FALSE_FIGURE, NO_ROAD, PAST_LIMIT, UNKNOWN_ROAD};
-use crate::sheet::{sheet_bytes, Sheet};
+use crate::reply::{Reply, BAD_BANS, BAD_RULES, BAD_TRIP, FALSE_FIGURE, NO_ROAD, PAST_LIMIT};
+use crate::sheet::{sheet_bytes, Record, Sheet};
 use crate::words::word;
 
 const OPERATIONS: [&str; 10] = [
@@ -45,6 +45,8 @@ pub struct Summary {
     figures: BTreeMap<&'static str, u64>,
     /// Answers that the week alone decides.
     by_the_week: BTreeMap<&'static str, u64>,
+    /// Runs with banned roads, and what the bans do.
+    by_the_bans: BTreeMap<&'static str, u64>,
 }
 
 pub fn summary(seed: u64, count: u64) -> Summary {
@@ -103,6 +105,27 @@ impl Summary {
         if seen.reply.number == NO_ROAD && week_bars_the_way(run) {
             *self.by_the_week.entry("runs without a road").or_default() += 1;
         }
+        if label_count(&seen.reply).is_some() && !run.bans.is_empty() {
+            self.add_bans(run, &seen);
+        }
+    }
+
+    fn add_bans(&mut self, run: &Run, seen: &Answer) {
+        let trip = Trip::open(&run.map, &run.order, &run.bans).expect("a run that was searched");
+        let open = Trip::without_bans(trip.map.clone(), trip.order.clone());
+        let [records, open_records] = [&trip, &open].map(records_of::<Document>);
+        let has_road = seen.reply.number == 0;
+        let uses = |kind| records.iter().any(|record| record.step.kind == kind);
+        for (what, is_so) in [
+            ("runs", true),
+            ("without a road", !has_road && !open_records.is_empty()),
+            ("with a queue", queues(&trip, &records)),
+            ("with another plan", has_road && records != open_records),
+            ("with a first part alone", uses(FIRST) && !uses(SECOND)),
+            ("with tied kinds", has_tied_kinds(&trip, &records)),
+        ] {
+            *self.by_the_bans.entry(what).or_default() += u64::from(is_so);
+        }
     }
 
     fn add_moves(&mut self, seen: &Answer) {
@@ -125,7 +148,7 @@ impl Summary {
             let _ = write!(text, "{operation:>12}");
         }
         text.push('\n');
-        for number in 0..=UNKNOWN_ROAD {
+        for number in 0..=BAD_BANS {
             let _ = write!(text, "{number:>7}");
             for operation in OPERATIONS {
                 let times = self.replies.get(&(number, operation)).unwrap_or(&0);
@@ -138,8 +161,30 @@ impl Summary {
         describe_row(&mut text, "plans with kind", &self.kinds);
         describe_row(&mut text, "traces that leave", &self.figures);
         describe_row(&mut text, "by the week alone", &self.by_the_week);
+        describe_row(&mut text, "with banned roads", &self.by_the_bans);
         text
     }
+}
+
+/// Whether a plan has a drive behind a queue.
+fn queues(trip: &Trip, records: &[Record]) -> bool {
+    let begun = [trip.order.departure].into_iter();
+    let before = begun.chain(records.iter().map(|record| record.clock));
+    records.iter().zip(before).any(|(record, before)| {
+        let Move { kind, number } = record.step;
+        kind == DRIVE && record.clock > before + trip.map.road(number).time()
+    })
+}
+
+/// Whether a plan has a break to which a second part would have been as good.
+fn has_tied_kinds(trip: &Trip, records: &[Record]) -> bool {
+    let mut marked = false;
+    let tied = records.iter().any(|record| {
+        let is_tied = marked && record.step.kind == BREAK;
+        marked = record.step.kind == FIRST || marked && record.step.kind == DRIVE;
+        is_tied
+    });
+    tied && trip.order.second_part == trip.order.break_time
 }
 
 /// What a call shows of the week, where nothing else would give its answer.
@@ -171,7 +216,7 @@ fn decided_by_the_week(probe: &Probe, reply: Reply) -> Option<&'static str> {
 
 fn is_week_alone_false(run: &Run, sheet: &[u8]) -> bool {
     let mut truly = sheet.to_vec();
-    let retimed = (DOCUMENT.retime)(&run.map, &run.order, sheet, &mut truly);
+    let retimed = (DOCUMENT.retime)(&run.map, &run.order, &run.bans, sheet, &mut truly);
     let [given, truly] = [sheet, &truly].map(Sheet::read);
     match (given, truly) {
         (Some(given), Some(truly)) if retimed.number == 0 => {
@@ -187,7 +232,7 @@ const MOST_STATES: usize = 20_000;
 
 /// Whether a run that has no road has one under the highest week limit.
 fn week_bars_the_way(run: &Run) -> bool {
-    let mut trip = Trip::open(&run.map, &run.order).expect("a run that was searched");
+    let mut trip = Trip::open(&run.map, &run.order, &run.bans).expect("a run that was searched");
     trip.order.week_limit = LONGEST_RULE;
     reaches_at_most(&trip, MOST_STATES)
         && answer_of::<Document>(&trip, &reachable_states::<Document>(&trip)).is_some()

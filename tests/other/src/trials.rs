@@ -22,13 +22,19 @@ fn answer_next(stored: &mut &[u8]) -> String {
     let kind = take(stored, 1)[0];
     let title_length = usize::from(take(stored, 1)[0]);
     let title = String::from_utf8_lossy(take(stored, title_length));
-    let figures = take(stored, 20);
-    let [number, label_words, map, order, sheet] =
-        [0, 4, 8, 12, 16].map(|offset| word(figures, offset) as usize);
-    let [map, order, sheet] = [map, order, sheet].map(|length| take(stored, length));
+    let figures = take(stored, 28);
+    let [number, roads, label_words, lengths @ ..]: [usize; 7] =
+        std::array::from_fn(|index| word(figures, 4 * index) as usize);
+    let [map, order, list, sheet] = lengths.map(|length| take(stored, length));
+    let bans = &numbers(list)[..];
     let answer = match kind {
         b'm' => line((DOCUMENT.check_map)(map)),
-        b'o' => line((DOCUMENT.check_order)(order, number as u32)),
+        b'o' => line((DOCUMENT.check_order)(
+            order,
+            bans,
+            number as u32,
+            roads as u32,
+        )),
         b'n' => {
             let (reply, offset, length) = (DOCUMENT.name)(map, number as u32);
             let name = String::from_utf8_lossy(&map[offset..offset + length]);
@@ -41,12 +47,12 @@ fn answer_next(stored: &mut &[u8]) -> String {
         }
         b'r' => {
             let mut out = vec![0xEE; number];
-            let reply = (DOCUMENT.retime)(map, order, sheet, &mut out);
+            let reply = (DOCUMENT.retime)(map, order, bans, sheet, &mut out);
             format!("{} {}", line(reply), hexadecimal(&out))
         }
-        b'a' => line((DOCUMENT.audit)(map, order, sheet)),
+        b'a' => line((DOCUMENT.audit)(map, order, bans, sheet)),
         b'p' => planned(vec![number as u32; label_words], sheet, |words, lent| {
-            (DOCUMENT.plan)(map, order, words, lent)
+            (DOCUMENT.plan)(map, order, bans, words, lent)
         }),
         b't' => replayed(order, number as u32, sheet),
         b's' => {
@@ -55,7 +61,7 @@ fn answer_next(stored: &mut &[u8]) -> String {
             format!("{} {}", line(reply), hexadecimal(&written))
         }
         b'v' => planned(vec![MARKED_WORD; label_words], sheet, |words, lent| {
-            (DOCUMENT.preview)(&mut map.to_vec(), order, number as u32, words, lent)
+            (DOCUMENT.preview)(&mut map.to_vec(), order, bans, number as u32, words, lent)
         }),
         other => format!("unknown kind {other}"),
     };
@@ -87,6 +93,12 @@ fn replayed(hours: &[u8], mark: u32, trace: &[u8]) -> String {
     let reply = (DOCUMENT.replay)(trace, rules, &mut figures);
     let [spell, shift, week, mark] = figures;
     format!("{} {spell} {shift} {week} {mark}", line(reply))
+}
+
+/// The words of a ban list.
+fn numbers(list: &[u8]) -> Vec<u32> {
+    let number = |bytes: &[u8]| word(bytes, 0) as u32;
+    list.chunks_exact(4).map(number).collect()
 }
 
 fn take<'a>(stored: &mut &'a [u8], length: usize) -> &'a [u8] {

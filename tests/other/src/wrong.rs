@@ -5,6 +5,7 @@ mod shared;
 mod splits;
 mod weeks;
 
+use crate::bans::accepted_bans;
 use crate::chains::make_chains;
 use crate::map::Road;
 use crate::mapcheck::{check_map, MOST_JUNCTIONS};
@@ -330,44 +331,80 @@ impl Offer for NoLeastSecond {
 }
 
 /// The right reply, with the sheet written as it must be.
-fn right_plan(map: &[u8], order: &[u8], labels: &mut [u32], sheet: &mut [u8]) -> Reply {
-    plan::<Document>(map, order, labels, sheet)
+fn right_plan(
+    map: &[u8],
+    order: &[u8],
+    bans: &[u32],
+    labels: &mut [u32],
+    sheet: &mut [u8],
+) -> Reply {
+    plan::<Document>(map, order, bans, labels, sheet)
 }
 
-fn accepts(map: &[u8], order: &[u8]) -> bool {
-    Trip::open(map, order).is_ok()
+fn accepts(map: &[u8], order: &[u8], bans: &[u32]) -> bool {
+    Trip::open(map, order, bans).is_ok()
 }
 
-fn full_before_looking(map: &[u8], order: &[u8], labels: &mut [u32], sheet: &mut [u8]) -> Reply {
-    if accepts(map, order) {
+fn full_before_looking(
+    map: &[u8],
+    order: &[u8],
+    bans: &[u32],
+    labels: &mut [u32],
+    sheet: &mut [u8],
+) -> Reply {
+    if accepts(map, order, bans) {
         return Reply::refused(FULL, labels_that_fit(labels.len()) as u64);
     }
-    right_plan(map, order, labels, sheet)
+    right_plan(map, order, bans, labels, sheet)
 }
 
-fn always_no_road(map: &[u8], order: &[u8], labels: &mut [u32], sheet: &mut [u8]) -> Reply {
-    let reply = right_plan(map, order, labels, &mut sheet.to_vec());
+fn always_no_road(
+    map: &[u8],
+    order: &[u8],
+    bans: &[u32],
+    labels: &mut [u32],
+    sheet: &mut [u8],
+) -> Reply {
+    let reply = right_plan(map, order, bans, labels, &mut sheet.to_vec());
     match reply.number {
         0 => Reply::refused(NO_ROAD, reply.place),
         _ => reply,
     }
 }
 
-fn every_sheet_short(map: &[u8], order: &[u8], labels: &mut [u32], sheet: &mut [u8]) -> Reply {
+fn every_sheet_short(
+    map: &[u8],
+    order: &[u8],
+    bans: &[u32],
+    labels: &mut [u32],
+    sheet: &mut [u8],
+) -> Reply {
     let mut written = sheet.to_vec();
-    let reply = right_plan(map, order, labels, &mut written);
+    let reply = right_plan(map, order, bans, labels, &mut written);
     match reply.number {
         0 => Reply::refused(SHORT_SHEET, sheet_bytes(word(&written, 0) as usize) as u64),
         _ => reply,
     }
 }
 
-fn sheet_unwritten(map: &[u8], order: &[u8], labels: &mut [u32], sheet: &mut [u8]) -> Reply {
-    right_plan(map, order, labels, &mut sheet.to_vec())
+fn sheet_unwritten(
+    map: &[u8],
+    order: &[u8],
+    bans: &[u32],
+    labels: &mut [u32],
+    sheet: &mut [u8],
+) -> Reply {
+    right_plan(map, order, bans, labels, &mut sheet.to_vec())
 }
 
-fn invented_count(map: &[u8], order: &[u8], labels: &mut [u32], sheet: &mut [u8]) -> Reply {
-    let mut reply = right_plan(map, order, labels, sheet);
+fn invented_count(
+    map: &[u8],
+    order: &[u8],
+    bans: &[u32],
+    labels: &mut [u32],
+    sheet: &mut [u8],
+) -> Reply {
+    let mut reply = right_plan(map, order, bans, labels, sheet);
     if reply.number == 0 {
         reply.place = labels_that_fit(labels.len()) as u64;
         put_word(sheet, 20, reply.place);
@@ -375,33 +412,57 @@ fn invented_count(map: &[u8], order: &[u8], labels: &mut [u32], sheet: &mut [u8]
     reply
 }
 
-fn place_of_full_is_count(map: &[u8], order: &[u8], labels: &mut [u32], sheet: &mut [u8]) -> Reply {
-    let reply = right_plan(map, order, labels, sheet);
+fn place_of_full_is_count(
+    map: &[u8],
+    order: &[u8],
+    bans: &[u32],
+    labels: &mut [u32],
+    sheet: &mut [u8],
+) -> Reply {
+    let reply = right_plan(map, order, bans, labels, sheet);
     if reply.number != FULL {
         return reply;
     }
     let mut ample = vec![0; 100_000];
-    let counted = right_plan(map, order, &mut ample, &mut vec![0; 100_000]);
+    let counted = right_plan(map, order, bans, &mut ample, &mut vec![0; 100_000]);
     Reply::refused(FULL, counted.place)
 }
 
-fn plan_clears_tail(map: &[u8], order: &[u8], labels: &mut [u32], sheet: &mut [u8]) -> Reply {
-    let reply = right_plan(map, order, labels, sheet);
+fn plan_clears_tail(
+    map: &[u8],
+    order: &[u8],
+    bans: &[u32],
+    labels: &mut [u32],
+    sheet: &mut [u8],
+) -> Reply {
+    let reply = right_plan(map, order, bans, labels, sheet);
     if reply.number == 0 {
         clear_tail(sheet);
     }
     reply
 }
 
-fn labels_touched_early(map: &[u8], order: &[u8], labels: &mut [u32], sheet: &mut [u8]) -> Reply {
+fn labels_touched_early(
+    map: &[u8],
+    order: &[u8],
+    bans: &[u32],
+    labels: &mut [u32],
+    sheet: &mut [u8],
+) -> Reply {
     if let Some(first) = labels.first_mut() {
         *first = 0;
     }
-    right_plan(map, order, labels, sheet)
+    right_plan(map, order, bans, labels, sheet)
 }
 
-fn retime_copies_clocks(map: &[u8], order: &[u8], sheet: &[u8], out: &mut [u8]) -> Reply {
-    let reply = retime::<Document>(map, order, sheet, out);
+fn retime_copies_clocks(
+    map: &[u8],
+    order: &[u8],
+    bans: &[u32],
+    sheet: &[u8],
+    out: &mut [u8],
+) -> Reply {
+    let reply = retime::<Document>(map, order, bans, sheet, out);
     if reply.number == 0 {
         let records = out.iter_mut().zip(sheet).skip(sheet_bytes(0));
         records.for_each(|(written, given)| *written = *given);
@@ -409,16 +470,28 @@ fn retime_copies_clocks(map: &[u8], order: &[u8], sheet: &[u8], out: &mut [u8]) 
     reply
 }
 
-fn retime_clears_tail(map: &[u8], order: &[u8], sheet: &[u8], out: &mut [u8]) -> Reply {
-    let reply = retime::<Document>(map, order, sheet, out);
+fn retime_clears_tail(
+    map: &[u8],
+    order: &[u8],
+    bans: &[u32],
+    sheet: &[u8],
+    out: &mut [u8],
+) -> Reply {
+    let reply = retime::<Document>(map, order, bans, sheet, out);
     if reply.number == 0 {
         clear_tail(out);
     }
     reply
 }
 
-fn retime_short_before_stray(map: &[u8], order: &[u8], sheet: &[u8], out: &mut [u8]) -> Reply {
-    let reply = retime::<Document>(map, order, sheet, out);
+fn retime_short_before_stray(
+    map: &[u8],
+    order: &[u8],
+    bans: &[u32],
+    sheet: &[u8],
+    out: &mut [u8],
+) -> Reply {
+    let reply = retime::<Document>(map, order, bans, sheet, out);
     match reply.number {
         STRAY if out.len() < sheet.len() => Reply::refused(SHORT_SHEET, sheet.len() as u64),
         _ => reply,
@@ -430,14 +503,14 @@ fn clear_tail(sheet: &mut [u8]) {
     sheet[written..].fill(0);
 }
 
-fn audit_ignores_shift(map: &[u8], order: &[u8], sheet: &[u8]) -> Reply {
+fn audit_ignores_shift(map: &[u8], order: &[u8], bans: &[u32], sheet: &[u8]) -> Reply {
     let mut truly = sheet.to_vec();
-    if retime::<Document>(map, order, sheet, &mut truly).number != 0 {
-        return audit::<Document>(map, order, sheet);
+    if retime::<Document>(map, order, bans, sheet, &mut truly).number != 0 {
+        return audit::<Document>(map, order, bans, sheet);
     }
     let mut given = Sheet::read(sheet).expect("a sheet that was retimed");
     given.shift = word(&truly, 12);
-    audit::<Document>(map, order, &given.bytes())
+    audit::<Document>(map, order, bans, &given.bytes())
 }
 
 fn name_from_map_start(map: &[u8], junction: u32) -> NameAnswer {
@@ -512,14 +585,15 @@ fn told_by_its_word(map: &[u8]) -> Reply {
     }
 }
 
-fn order_rules_after_trip(bytes: &[u8], junctions: u32) -> Reply {
+fn order_rules_after_trip(bytes: &[u8], bans: &[u32], junctions: u32, roads: u32) -> Reply {
     if bytes.len() != ORDER_BYTES {
-        return check_order(bytes, junctions);
+        return check_order(bytes, bans, junctions, roads);
     }
     let order = Order::read(bytes);
     let judged = refuse_broken(BAD_TRIP, &order.trip(u64::from(junctions)))
-        .and_then(|()| refuse_broken(BAD_RULES, &order.rules()));
-    told(judged.map(|()| Reply::success(0, 0)))
+        .and_then(|()| refuse_broken(BAD_RULES, &order.rules()))
+        .and_then(|()| accepted_bans(bans, u64::from(roads)));
+    told(judged.map(|_| Reply::success(0, 0)))
 }
 
 struct PausesNotJoined;

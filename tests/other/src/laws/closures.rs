@@ -90,7 +90,7 @@ fn plan_in(answer: &Answer) -> Option<Sheet> {
 }
 
 fn audited(operations: &Operations, run: &Run, sheet: &Sheet) -> Reply {
-    (operations.audit)(&run.map, &run.order, &sheet.bytes())
+    (operations.audit)(&run.map, &run.order, &run.bans, &sheet.bytes())
 }
 
 /// A closure brings no journey and no earlier arrival. A plan that does not drive the road stays, but

@@ -27,7 +27,7 @@ pub fn random_closures(random: &mut Random, run: &Run) -> Vec<Closure> {
         road: number as u32,
     };
     let roads = road_count(&run.map);
-    let mut closures = match Trip::open(&run.map, &run.order) {
+    let mut closures = match Trip::open(&run.map, &run.order, &run.bans) {
         Ok(trip) => closures_of_roads(random, &trip),
         Err(_) => vec![closure(random.between(1, roads.max(1)))],
     };

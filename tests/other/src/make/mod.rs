@@ -1,5 +1,6 @@
 //! Random cases, small enough for every reachable state to be enumerated.
 
+pub mod bans;
 pub mod closures;
 pub mod damage;
 pub mod maps;
@@ -20,11 +21,19 @@ use random::Random;
 use sheets::Timing;
 use traces::Replay;
 
-/// A map and an order, as bytes.
+/// A map and an order, as bytes, and a ban list.
 #[derive(Clone, Debug)]
 pub struct Run {
     pub map: Vec<u8>,
     pub order: Vec<u8>,
+    pub bans: Vec<u32>,
+}
+
+impl Run {
+    pub fn without_bans(map: Vec<u8>, order: Vec<u8>) -> Run {
+        let bans = Vec::new();
+        Run { map, order, bans }
+    }
 }
 
 /// What every operation is tried on.
@@ -41,6 +50,8 @@ pub struct Case {
     pub replays: Vec<Replay>,
     /// Roads to strike, each with its own order.
     pub closures: Vec<Closure>,
+    /// Ban lists, most of them spoilt.
+    pub lists: Vec<Vec<u32>>,
 }
 
 impl Case {
@@ -63,10 +74,17 @@ const SPOILT_MAPS: usize = 8;
 const REPLAYS: usize = 8;
 const MOST_DRAWS: usize = 12;
 
+/// So many cases to one with a ban list.
+const CASES_TO_BANS: u64 = 3;
+
 /// The case of a seed and a number: each can be made again on its own.
 pub fn case(seed: u64, number: u64) -> Case {
     let random = &mut Random::new(seed, number);
-    let trip = random_trip(random);
+    let has_bans = number.is_multiple_of(CASES_TO_BANS);
+    let trip = match has_bans {
+        true => bans::ban_trip(random),
+        false => random_trip(random),
+    };
     let mut case = match random.below(10) {
         0..=4 => sound_case(random, &trip),
         5..=6 => pair_case(random, &trip),
@@ -76,7 +94,19 @@ pub fn case(seed: u64, number: u64) -> Case {
     let replay = |_| traces::random_replay(random);
     case.replays = (0..REPLAYS).map(replay).collect();
     case.closures = closures::random_closures(random, &case.run);
+    if has_bans {
+        case.lists = bans::random_lists(random, &trip.map);
+        spoil_damaged_run(random, &mut case);
+    }
     case
+}
+
+/// Where the map or the order is damaged, the list often is too.
+fn spoil_damaged_run(random: &mut Random, case: &mut Case) {
+    let run = &mut case.run;
+    if Trip::open(&run.map, &run.order, &run.bans).is_err() && random.one_in(2) {
+        run.bans = random.pick(&[&case.lists[0], &case.lists[1]]).clone();
+    }
 }
 
 /// Most trips drawn at random have hardly a label, so that several are drawn until one has as many
@@ -107,7 +137,7 @@ fn draw_trip(random: &mut Random) -> Trip {
     }
     let map = maps::random_map(random);
     let order = orders::random_order(random, &map);
-    let mut trip = Trip { map, order };
+    let mut trip = Trip::without_bans(map, order);
     orders::tame(&mut trip);
     trip
 }
@@ -125,6 +155,7 @@ fn run_of(trip: &Trip) -> Run {
     Run {
         map: trip.map.bytes(),
         order: trip.order.bytes(),
+        bans: trip.bans.clone(),
     }
 }
 
@@ -144,6 +175,7 @@ fn sound_case(random: &mut Random, trip: &Trip) -> Case {
         easier: None,
         replays: Vec::new(),
         closures: Vec::new(),
+        lists: Vec::new(),
     }
 }
 
@@ -158,6 +190,7 @@ fn pair_case(random: &mut Random, trip: &Trip) -> Case {
         easier: Some(run_of(&easier)),
         replays: Vec::new(),
         closures: Vec::new(),
+        lists: Vec::new(),
     }
 }
 
@@ -177,7 +210,7 @@ fn damaged_order_case(random: &mut Random, trip: &Trip) -> Case {
 
 /// A damaged run may still be accepted, and then reach far more states.
 fn tame_run(run: &mut Run) {
-    if let Ok(mut trip) = Trip::open(&run.map, &run.order) {
+    if let Ok(mut trip) = Trip::open(&run.map, &run.order, &run.bans) {
         orders::tame(&mut trip);
         run.order = trip.order.bytes();
     }

@@ -45,7 +45,7 @@ fn random_ends(random: &mut Random, junctions: u64) -> (u64, u64) {
 }
 
 /// A road's time, often the longest, by which limits and pauses are measured.
-fn random_unit(random: &mut Random, map: &Map) -> u64 {
+pub fn random_unit(random: &mut Random, map: &Map) -> u64 {
     if map.roads.is_empty() {
         return random.between(1, 9);
     }

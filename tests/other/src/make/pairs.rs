@@ -10,7 +10,18 @@ pub fn easier_trip(random: &mut Random, trip: &Trip) -> Trip {
     Trip {
         map: easier_map(random, &trip.map),
         order: easier_order(random, &trip.order),
+        bans: fewer_bans(random, &trip.bans),
     }
+}
+
+/// Some of the banned roads, often all or none of them.
+pub fn fewer_bans(random: &mut Random, bans: &[u32]) -> Vec<u32> {
+    if bans.is_empty() {
+        return Vec::new();
+    }
+    let kept = random.below(4);
+    let is_kept = |_: &u32| kept > 1 || kept == 1 && random.one_in(2);
+    bans.iter().copied().filter(is_kept).collect()
 }
 
 /// The same junctions and road ends; no road takes longer, no car park is lost, names differ.

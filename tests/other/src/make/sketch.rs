@@ -2,6 +2,12 @@
 
 use crate::map::{Junction, Map, Road};
 
+/// Metres that take a second on a sketched road, to the nearest second.
+pub const METRES_OF_A_SECOND: u64 = 22;
+
+/// Metres that take exactly nine.
+pub const METRES_OF_NINE_SECONDS: u64 = 200;
+
 pub struct Sketch(Map);
 
 impl Default for Sketch {

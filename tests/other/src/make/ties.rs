@@ -99,15 +99,14 @@ fn tied_by_the_shift(random: &mut Random) -> Trip {
     let week_limit = week + ways.shorter + last;
     let limits = [ways.longer, break_time, shift_limit, rest_time];
     let rules = rules_of(limits, [0, 0], [week_limit, weekly_rest]);
-    Trip {
-        map: ways.map(),
-        order: Order {
-            source: 1,
-            target: ways.target(random),
-            latest: 3 * weekly_rest + 2 * ways.longer,
-            ..Order::of_hours(rules, [0, shift_limit, week])
-        },
-    }
+    let map = ways.map();
+    let order = Order {
+        source: 1,
+        target: ways.target(random),
+        latest: 3 * weekly_rest + 2 * ways.longer,
+        ..Order::of_hours(rules, [0, shift_limit, week])
+    };
+    Trip::without_bans(map, order)
 }
 
 /// Neither rest takes longer than the other, so that the weekly one is taken. On the shorter way a first
@@ -119,13 +118,12 @@ fn tied_by_the_mark(random: &mut Random) -> Trip {
     let ways = Ways::random(random, difference);
     let order = tied_order(random, &ways, first_part, 0);
     let week_limit = order.week_limit + random.between(0, 9);
-    Trip {
-        map: ways.map(),
-        order: Order {
-            week_limit,
-            ..order
-        },
-    }
+    let map = ways.map();
+    let order = Order {
+        week_limit,
+        ..order
+    };
+    Trip::without_bans(map, order)
 }
 
 /// The hours left of the week ask for a weekly rest on the longer way, and on the shorter one not. There a
@@ -139,14 +137,13 @@ fn tied_by_the_week(random: &mut Random) -> Trip {
     let order = tied_order(random, &ways, first_part, more_rest);
     let week = ways.limit() + random.between(0, 3);
     let week_limit = week + ways.shorter + ways.last;
-    Trip {
-        map: ways.map(),
-        order: Order {
-            week,
-            week_limit,
-            ..order
-        },
-    }
+    let map = ways.map();
+    let order = Order {
+        week,
+        week_limit,
+        ..order
+    };
+    Trip::without_bans(map, order)
 }
 
 /// An order with a weekly rest so much longer than the rest, and the lowest week limit that there may be.

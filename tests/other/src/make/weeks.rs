@@ -3,14 +3,11 @@
 
 use super::orders::rules_of;
 use super::random::Random;
-use super::sketch::Sketch;
+use super::sketch::{Sketch, METRES_OF_A_SECOND};
 use crate::moves::Trip;
 use crate::order::Order;
 
 const ROADS: usize = 3;
-
-/// Metres that take a second on a sketched road.
-const METRES_OF_A_SECOND: u64 = 22;
 
 pub fn week_trip(random: &mut Random) -> Trip {
     let seconds: [u64; ROADS] = [(); ROADS].map(|()| random.between(3, 6));
@@ -21,14 +18,13 @@ pub fn week_trip(random: &mut Random) -> Trip {
         sketch.road(junction, next, METRES_OF_A_SECOND * road);
         junction = next;
     }
-    Trip {
-        map: sketch.map(),
-        order: Order {
-            source: 1,
-            target: junction,
-            ..random_hours(random, seconds)
-        },
-    }
+    let map = sketch.map();
+    let order = Order {
+        source: 1,
+        target: junction,
+        ..random_hours(random, seconds)
+    };
+    Trip::without_bans(map, order)
 }
 
 /// The hours left of the week end before or behind one of the roads. A spell lasts for two roads, and often

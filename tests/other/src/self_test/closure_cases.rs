@@ -58,7 +58,7 @@ pub fn unknown_roads() {
 /// search has not begun.
 fn previewed(map: &[u8], order: &[u8], road: u32, words: usize, bytes: usize) -> (Reply, Vec<u8>) {
     let (mut lent, mut labels, mut sheet) = (map.to_vec(), vec![7; words], vec![MARK; bytes]);
-    let reply = (DOCUMENT.preview)(&mut lent, order, road, &mut labels, &mut sheet);
+    let reply = (DOCUMENT.preview)(&mut lent, order, &[], road, &mut labels, &mut sheet);
     assert_eq!(lent, map);
     assert!(!reply.is_before_search() || labels == vec![7; words]);
     (reply, sheet)
@@ -179,7 +179,8 @@ pub fn order_of_refusals() {
 /// The plan from before goes on from where the closed road led; the preview's passes.
 pub fn audits_on_the_struck_map() {
     let (map, order) = (two_ways(), small_order(1, 4));
-    let audit = |map: &[u8], sheet: &Sheet| (DOCUMENT.audit)(map, &order.bytes(), &sheet.bytes());
+    let audit =
+        |map: &[u8], sheet: &Sheet| (DOCUMENT.audit)(map, &order.bytes(), &[], &sheet.bytes());
     let plan = plan_sheet(&map, &order);
     let open = map.bytes();
     for (road, after_closure) in [

@@ -95,15 +95,31 @@ pub const MARK: u8 = 0xEE;
 
 /// The reply and the marked sheet afterwards.
 pub fn planned(map: &Map, order: &Order, label_words: usize, bytes: usize) -> (Reply, Vec<u8>) {
+    planned_under(map, order, &[], label_words, bytes)
+}
+
+/// The same with banned roads.
+pub fn planned_under(
+    map: &Map,
+    order: &Order,
+    bans: &[u32],
+    label_words: usize,
+    bytes: usize,
+) -> (Reply, Vec<u8>) {
     let mut sheet = vec![MARK; bytes];
     let mut labels = vec![7; label_words];
-    let reply = (DOCUMENT.plan)(&map.bytes(), &order.bytes(), &mut labels, &mut sheet);
+    let reply = (DOCUMENT.plan)(&map.bytes(), &order.bytes(), bans, &mut labels, &mut sheet);
     (reply, sheet)
 }
 
 /// The plan of a run with space to spare.
 pub fn plan_sheet(map: &Map, order: &Order) -> Sheet {
-    let (reply, sheet) = planned(map, order, 800, 1_000);
+    plan_sheet_under(map, order, &[])
+}
+
+/// The same with banned roads.
+pub fn plan_sheet_under(map: &Map, order: &Order, bans: &[u32]) -> Sheet {
+    let (reply, sheet) = planned_under(map, order, bans, 800, 1_000);
     assert_eq!(reply.number, 0);
     let moves = usize::from(sheet[0]);
     let plan = Sheet::read(&sheet[..24 + 12 * moves]).expect("a plan");

@@ -60,8 +60,8 @@ pub fn pairs_make_nothing_worse() {
         let Some(easier) = &case.easier else {
             continue;
         };
-        let a = Trip::open(&case.run.map, &case.run.order).expect("accepted");
-        let b = Trip::open(&easier.map, &easier.order).expect("accepted");
+        let a = Trip::open(&case.run.map, &case.run.order, &case.run.bans).expect("accepted");
+        let b = Trip::open(&easier.map, &easier.order, &easier.bans).expect("accepted");
         for (one, other) in a.map.roads.iter().zip(&b.map.roads) {
             assert_eq!((one.from, one.to), (other.from, other.to));
             assert!(other.time() <= one.time());
@@ -91,7 +91,7 @@ fn undominated_by_pairs(reachable: &BTreeSet<State>) -> Vec<State> {
 
 pub fn dominance_by_pairs_agrees() {
     for case in cases() {
-        if let Ok(trip) = Trip::open(&case.run.map, &case.run.order) {
+        if let Ok(trip) = Trip::open(&case.run.map, &case.run.order, &case.run.bans) {
             let reachable = reachable_states::<Document>(&trip);
             let expected = undominated_by_pairs(&reachable);
             assert_eq!(undominated::<Document>(&reachable), expected);
@@ -108,7 +108,7 @@ pub fn plans_pass_their_audit() {
         }
         let moves = word(&seen.written, 0);
         let plan = &seen.written[..sheet_bytes(moves as usize)];
-        let audited = (DOCUMENT.audit)(&run.map, &run.order, plan);
+        let audited = (DOCUMENT.audit)(&run.map, &run.order, &run.bans, plan);
         assert_eq!(audited, Reply::success(moves, seen.reply.arrival));
     }
 }
@@ -173,6 +173,9 @@ pub fn special_calls_have_the_replies_meant() {
         ("strike", 3, 8),
         ("plan", 3, 8),
         ("preview", 3, 8),
+        ("check order", 0, 0),
+        ("check order", 25, 40_960),
+        ("plan", 0, 3),
         ("retime", 0, 999_999),
         ("audit", 0, 999_999),
         ("retime", 15, longest),
@@ -212,8 +215,9 @@ pub fn letterings_have_a_bad_byte_at_every_place() {
     }
 }
 
-/// Number and arrival of each, rested and tired, without a split and with one. The last are the first
-/// with a road closed. There are no more than 17 clocks for the labels to have, since pauses take as long
+/// Number and arrival of each, rested and tired, without a split and with one. Behind them are the first with
+/// a road closed, and on a Sunday: there all roads open at 165,600, three roads after the departure, when a break
+/// at the source, as long as six, has three roads to go. There are no more than 17 clocks for the labels to have, since pauses take as long
 /// as some roads.
 pub fn equal_clocks_have_the_replies_meant() {
     const TOO_FAR: (u64, u64) = (NO_ROAD, 0);
@@ -230,10 +234,12 @@ pub fn equal_clocks_have_the_replies_meant() {
         .iter()
         .map(|reply| (reply.number, reply.arrival))
         .collect();
-    assert_eq!(told, [planned.concat(), near.into()].concat());
+    let opens = 165_600;
+    let on_sunday = vec![(0, opens + 8 * 450), (0, opens + (3 + 8) * 450)];
+    assert_eq!(told, [planned.concat(), near.into(), on_sunday].concat());
     let counts: Vec<u64> = replies.iter().map(|reply| reply.place).collect();
     assert!(counts.iter().all(|count| *count > 100));
-    let closed = &counts[counts.len() - near.len()..];
+    let closed = &counts[counts.len() - 2 * near.len()..counts.len() - near.len()];
     assert!(closed
         .iter()
         .zip(&counts)

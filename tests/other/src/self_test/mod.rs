@@ -1,5 +1,6 @@
 //! Tests of this implementation, for `cargo test` and for the program's `self-test`.
 
+mod ban_cases;
 mod calendar_cases;
 mod closure_cases;
 mod fixtures;
@@ -105,6 +106,17 @@ pub fn tests() -> Vec<Test> {
         calendar_cases::feasts,
         calendar_cases::gates,
         calendar_cases::sundays_alone_after_the_last_year,
+        ban_cases::rest_in_place_of_a_queue,
+        ban_cases::idle_first_part,
+        ban_cases::lower_kind_on_ties,
+        ban_cases::only_entry_counts,
+        ban_cases::detour_round_a_ban,
+        ban_cases::start_in_a_ban,
+        ban_cases::easter_weekend,
+        ban_cases::queues_on_sheets,
+        ban_cases::struck_road_keeps_its_ban,
+        ban_cases::lists_that_pass_and_lists_that_do_not,
+        ban_cases::order_of_refusals,
         making::practice_maps,
         making::pairs_make_nothing_worse,
         making::dominance_by_pairs_agrees,

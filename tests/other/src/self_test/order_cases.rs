@@ -4,7 +4,7 @@ use super::fixtures::*;
 use crate::operations::DOCUMENT;
 
 fn check(bytes: &[u8]) -> (u64, u64) {
-    let reply = (DOCUMENT.check_order)(bytes, 3);
+    let reply = (DOCUMENT.check_order)(bytes, &[], 3, 3);
     (reply.number, reply.place)
 }
 

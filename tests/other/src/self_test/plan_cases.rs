@@ -116,7 +116,7 @@ pub fn labels_that_fit() {
 }
 
 pub fn map_and_order_come_first() {
-    let plan = |map: &[u8], order: &[u8]| (DOCUMENT.plan)(map, order, &mut [], &mut []);
+    let plan = |map: &[u8], order: &[u8]| (DOCUMENT.plan)(map, order, &[], &mut [], &mut []);
     let (map, order) = (map_t().bytes(), order_t().bytes());
     assert_eq!(plan(&map[..132], &[]), refused(4, 133));
     assert_eq!(plan(&map, &order[..8]), refused(9, 8));

@@ -32,12 +32,12 @@ fn true_sheet() -> Vec<u8> {
 
 fn retime(order: &Order, given: &[u8], length: usize) -> (Reply, Vec<u8>) {
     let mut out = vec![MARK; length];
-    let reply = (DOCUMENT.retime)(&map_t().bytes(), &order.bytes(), given, &mut out);
+    let reply = (DOCUMENT.retime)(&map_t().bytes(), &order.bytes(), &[], given, &mut out);
     (reply, out)
 }
 
 fn audit(order: &Order, given: &[u8]) -> Reply {
-    (DOCUMENT.audit)(&map_t().bytes(), &order.bytes(), given)
+    (DOCUMENT.audit)(&map_t().bytes(), &order.bytes(), &[], given)
 }
 
 /// A refusal that retiming and audit share; the other sheet stays.

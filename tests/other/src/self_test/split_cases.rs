@@ -12,7 +12,7 @@ use crate::reply::Reply;
 use crate::sheet::Sheet;
 
 pub fn opened(map: &Map, order: &Order) -> Trip {
-    Trip::open(&map.bytes(), &order.bytes()).expect("an accepted run")
+    Trip::open(&map.bytes(), &order.bytes(), &[]).expect("an accepted run")
 }
 
 /// Junction, clock, spell, shift and whether marked, of every label by rank.
@@ -113,7 +113,7 @@ pub fn audited_pauses(order: &Order, kinds: &[u64]) -> Reply {
         rows.push((*kind, 2, state.clock));
     }
     let sheet = Sheet::ending_at(&state, 1, records(&rows)).bytes();
-    (DOCUMENT.audit)(&map_t().bytes(), &order.bytes(), &sheet)
+    (DOCUMENT.audit)(&map_t().bytes(), &order.bytes(), &[], &sheet)
 }
 
 fn audited_at_lay(kinds: &[u64], parts: [u64; 2]) -> Reply {

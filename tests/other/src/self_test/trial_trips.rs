@@ -63,7 +63,7 @@ pub fn spell_just_met_and_just_missed() {
     for (spell, legal) in [(9_000, true), (9_001, false)] {
         let mut order = order_t();
         (order.source, order.spell, order.shift, order.week) = (2, spell, spell, spell);
-        let trip = Trip::open(&map_t().bytes(), &order.bytes()).expect("an accepted run");
+        let trip = Trip::open(&map_t().bytes(), &order.bytes(), &[]).expect("an accepted run");
         let mut moves = trip.legal_moves::<Document>(&trip.start());
         moves.retain(|(step, _)| step.kind == DRIVE);
         assert_eq!(moves.len(), usize::from(legal));

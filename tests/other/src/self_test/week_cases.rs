@@ -243,7 +243,7 @@ pub fn weeks_of_sheets() {
     let map = map_t().bytes();
     let timed = |given: &[u8]| {
         let mut out = vec![MARK; 60];
-        let reply = (DOCUMENT.retime)(&map, &order.bytes(), given, &mut out);
+        let reply = (DOCUMENT.retime)(&map, &order.bytes(), &[], given, &mut out);
         (reply, out)
     };
     for (kind, pause_end, week) in [(3, 50_400, 18_100), (6, 172_800, 7_200)] {
@@ -262,7 +262,7 @@ pub fn weeks_of_sheets() {
         assert_eq!(timed(&with_word(&truly, 16, 5)), (done, truly.clone()));
         let other_count = with_word(&truly, 20, ALL_BITS);
         assert_eq!(timed(&other_count), (done, other_count.clone()));
-        let audit = |given: &[u8]| (DOCUMENT.audit)(&map, &order.bytes(), given);
+        let audit = |given: &[u8]| (DOCUMENT.audit)(&map, &order.bytes(), &[], given);
         assert_eq!([audit(&truly), audit(&other_count)], [done; 2]);
         for false_week in [0, week - 1, week + 1, 77] {
             assert_eq!(audit(&with_word(&truly, 16, false_week)), refused(18, 4));
@@ -283,7 +283,7 @@ pub fn week_limits_of_sheets() {
             records: records(&moves),
         };
         let order = late_in_the_week(week, 100_000);
-        (DOCUMENT.audit)(&map_t().bytes(), &order.bytes(), &sheet.bytes())
+        (DOCUMENT.audit)(&map_t().bytes(), &order.bytes(), &[], &sheet.bytes())
     };
     assert_eq!(audited(183_600, 201_600), Reply::success(3, 57_600));
     assert_eq!(audited(183_601, 201_601), refused(17, 3));

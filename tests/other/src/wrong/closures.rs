@@ -229,6 +229,7 @@ fn wrong_preview<Wrong: WrongPreview>() -> WrongCopy {
 struct Lent<'a> {
     map: &'a mut [u8],
     order: &'a [u8],
+    bans: &'a [u32],
     road: u32,
     labels: &'a mut [u32],
     sheet: &'a mut [u8],
@@ -236,17 +237,31 @@ struct Lent<'a> {
 
 impl Lent<'_> {
     fn preview(&mut self) -> Reply {
-        preview(self.map, self.order, self.road, self.labels, self.sheet)
+        preview(
+            self.map,
+            self.order,
+            self.bans,
+            self.road,
+            self.labels,
+            self.sheet,
+        )
     }
 
     fn plan(&mut self) -> Reply {
-        plan::<Document>(self.map, self.order, self.labels, self.sheet)
+        plan::<Document>(self.map, self.order, self.bans, self.labels, self.sheet)
     }
 
     /// The reply alone: nothing is written to the sheet.
     fn preview_apart(&mut self) -> Reply {
         let mut sheet = self.sheet.to_vec();
-        preview(self.map, self.order, self.road, self.labels, &mut sheet)
+        preview(
+            self.map,
+            self.order,
+            self.bans,
+            self.road,
+            self.labels,
+            &mut sheet,
+        )
     }
 
     /// What striking replies, on a copy.
@@ -264,6 +279,7 @@ trait WrongPreview {
 fn previewing<Wrong: WrongPreview>(
     map: &mut [u8],
     order: &[u8],
+    bans: &[u32],
     road: u32,
     labels: &mut [u32],
     sheet: &mut [u8],
@@ -271,6 +287,7 @@ fn previewing<Wrong: WrongPreview>(
     Wrong::answer(Lent {
         map,
         order,
+        bans,
         road,
         labels,
         sheet,
@@ -278,9 +295,9 @@ fn previewing<Wrong: WrongPreview>(
 }
 
 /// The plan of the open map, with space to spare: its reply and its sheet.
-fn open_plan(map: &[u8], order: &[u8]) -> (Reply, Vec<u8>) {
+fn open_plan(map: &[u8], order: &[u8], bans: &[u32]) -> (Reply, Vec<u8>) {
     let mut sheet = vec![0; 100_000];
-    let reply = plan::<Document>(map, order, &mut [0; 100_000], &mut sheet);
+    let reply = plan::<Document>(map, order, bans, &mut [0; 100_000], &mut sheet);
     (reply, sheet)
 }
 
@@ -305,7 +322,7 @@ impl WrongPreview for ClosesParallelRoads {
     fn answer(mut lent: Lent) -> Reply {
         let mut copy = lent.map.to_vec();
         match takes_parallel_roads(&mut copy, lent.road).number {
-            0 => plan::<Document>(&copy, lent.order, lent.labels, lent.sheet),
+            0 => plan::<Document>(&copy, lent.order, lent.bans, lent.labels, lent.sheet),
             _ => lent.preview(),
         }
     }
@@ -331,7 +348,14 @@ impl WrongPreview for JudgesTheStruckMap {
     fn answer(lent: Lent) -> Reply {
         let mut copy = lent.map.to_vec();
         mends_a_bad_end(&mut copy, lent.road);
-        preview(&copy, lent.order, lent.road, lent.labels, lent.sheet)
+        preview(
+            &copy,
+            lent.order,
+            lent.bans,
+            lent.road,
+            lent.labels,
+            lent.sheet,
+        )
     }
 }
 
@@ -415,7 +439,8 @@ impl WrongPreview for UndrivenIsThePlan {
             number: lent.road.into(),
         };
         let drives = |record: &Record| record.step == drive;
-        let open = Trip::open(lent.map, lent.order).map(|trip| records_of::<Document>(&trip));
+        let open =
+            Trip::open(lent.map, lent.order, lent.bans).map(|trip| records_of::<Document>(&trip));
         let known = lent.strike_apart().number == 0;
         if known && open.is_ok_and(|records| !records.is_empty() && !records.iter().any(drives)) {
             return lent.plan();
@@ -434,7 +459,7 @@ impl WrongPreview for CountsTheOpenLabels {
         if reply.is_before_search() {
             return reply;
         }
-        let (open, _) = open_plan(lent.map, lent.order);
+        let (open, _) = open_plan(lent.map, lent.order, lent.bans);
         match (reply.number, open.number) {
             (0, 0) => {
                 reply.place = open.place;
@@ -455,8 +480,13 @@ impl WrongPreview for FullByTheOpenLabels {
     fn answer(mut lent: Lent) -> Reply {
         let reply = lent.preview_apart();
         if !reply.is_before_search() {
-            let open =
-                plan::<Document>(lent.map, lent.order, lent.labels, &mut lent.sheet.to_vec());
+            let open = plan::<Document>(
+                lent.map,
+                lent.order,
+                lent.bans,
+                lent.labels,
+                &mut lent.sheet.to_vec(),
+            );
             if open.number == FULL {
                 return open;
             }
@@ -475,7 +505,7 @@ impl WrongPreview for ShortByTheOpenPlan {
         if reply.number != SHORT_SHEET {
             return reply;
         }
-        let (_, open) = open_plan(lent.map, lent.order);
+        let (_, open) = open_plan(lent.map, lent.order, lent.bans);
         Reply::refused(SHORT_SHEET, sheet_bytes(word(&open, 0) as usize) as u64)
     }
 }
@@ -494,6 +524,7 @@ impl WrongPreview for ShortSheetSucceeds {
             } => preview(
                 lent.map,
                 lent.order,
+                lent.bans,
                 lent.road,
                 lent.labels,
                 &mut vec![0; place as usize],

@@ -1,8 +1,9 @@
 //! What several files of wrong copies make them with.
 
 use super::WrongCopy;
+use crate::bans::accepted_bans;
 use crate::moves::{Move, Offer, State, Trip};
-use crate::operations::{Operations, DOCUMENT};
+use crate::operations::{CheckOrderFunction, Operations, DOCUMENT};
 use crate::order::{check_order, refuse_broken, Order, ORDER_BYTES};
 use crate::planning::{plan, Planner};
 use crate::reply::*;
@@ -17,9 +18,15 @@ pub struct Verdicts {
 }
 
 /// The order judged with some verdicts changed.
-pub fn check_by(bytes: &[u8], junctions: u32, change: impl Fn(&Order, &mut Verdicts)) -> Reply {
+pub fn check_by(
+    bytes: &[u8],
+    bans: &[u32],
+    junctions: u32,
+    roads: u32,
+    change: impl Fn(&Order, &mut Verdicts),
+) -> Reply {
     if bytes.len() != ORDER_BYTES {
-        return check_order(bytes, junctions);
+        return check_order(bytes, bans, junctions, roads);
     }
     let order = Order::read(bytes);
     let mut verdicts = Verdicts {
@@ -28,11 +35,12 @@ pub fn check_by(bytes: &[u8], junctions: u32, change: impl Fn(&Order, &mut Verdi
     };
     change(&order, &mut verdicts);
     let judged = refuse_broken(BAD_RULES, &verdicts.rules)
-        .and_then(|()| refuse_broken(BAD_TRIP, &verdicts.trip));
-    told(judged.map(|()| Reply::success(0, 0)))
+        .and_then(|()| refuse_broken(BAD_TRIP, &verdicts.trip))
+        .and_then(|()| accepted_bans(bans, u64::from(roads)));
+    told(judged.map(|_| Reply::success(0, 0)))
 }
 
-pub fn checking(name: &'static str, check_order: fn(&[u8], u32) -> Reply) -> WrongCopy {
+pub fn checking(name: &'static str, check_order: CheckOrderFunction) -> WrongCopy {
     WrongCopy {
         name,
         operations: Operations {

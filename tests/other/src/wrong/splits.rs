@@ -23,28 +23,46 @@ pub fn copies() -> Vec<WrongCopy> {
 /// The parts' rules are those from 6 on: each part at most the break, and then not alone zero.
 fn order_copies() -> [WrongCopy; 6] {
     [
-        checking("first-part-alone-zero-accepted", |bytes, junctions| {
-            check_by(bytes, junctions, |_, by| by.rules[7].1 = true)
-        }),
-        checking("second-part-alone-zero-accepted", |bytes, junctions| {
-            check_by(bytes, junctions, |_, by| by.rules[9].1 = true)
-        }),
-        checking("lone-zero-charged-to-the-other", |bytes, junctions| {
-            check_by(bytes, junctions, |_, by| {
-                (by.rules[7].0, by.rules[9].0) = (11, 10)
-            })
-        }),
-        checking("first-part-above-the-break", |bytes, junctions| {
-            check_by(bytes, junctions, |_, by| by.rules[6].1 = true)
-        }),
-        checking("second-part-above-the-break", |bytes, junctions| {
-            check_by(bytes, junctions, |_, by| by.rules[8].1 = true)
-        }),
-        checking("part-as-long-as-the-break-refused", |bytes, junctions| {
-            check_by(bytes, junctions, |order, by| {
-                by.rules[6].1 = order.first_part < order.break_time
-            })
-        }),
+        checking(
+            "first-part-alone-zero-accepted",
+            |bytes, bans, junctions, roads| {
+                check_by(bytes, bans, junctions, roads, |_, by| by.rules[7].1 = true)
+            },
+        ),
+        checking(
+            "second-part-alone-zero-accepted",
+            |bytes, bans, junctions, roads| {
+                check_by(bytes, bans, junctions, roads, |_, by| by.rules[9].1 = true)
+            },
+        ),
+        checking(
+            "lone-zero-charged-to-the-other",
+            |bytes, bans, junctions, roads| {
+                check_by(bytes, bans, junctions, roads, |_, by| {
+                    (by.rules[7].0, by.rules[9].0) = (11, 10)
+                })
+            },
+        ),
+        checking(
+            "first-part-above-the-break",
+            |bytes, bans, junctions, roads| {
+                check_by(bytes, bans, junctions, roads, |_, by| by.rules[6].1 = true)
+            },
+        ),
+        checking(
+            "second-part-above-the-break",
+            |bytes, bans, junctions, roads| {
+                check_by(bytes, bans, junctions, roads, |_, by| by.rules[8].1 = true)
+            },
+        ),
+        checking(
+            "part-as-long-as-the-break-refused",
+            |bytes, bans, junctions, roads| {
+                check_by(bytes, bans, junctions, roads, |order, by| {
+                    by.rules[6].1 = order.first_part < order.break_time
+                })
+            },
+        ),
     ]
 }
 

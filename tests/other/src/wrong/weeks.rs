@@ -5,7 +5,7 @@ use std::cmp::Ordering;
 
 use super::shared::*;
 use super::{default_half, right_plan, right_replay, WrongCopy};
-use crate::moves::{Document, Move, Offer, State, Trip, BREAK, DRIVE, REST, WEEKLY};
+use crate::moves::{accepted_run, Document, Move, Offer, State, Trip, BREAK, DRIVE, REST, WEEKLY};
 use crate::operations::{
     LentFigures, LentRules, Operations, PlanFunction, ReplayFunction, RetimeFunction, DOCUMENT,
 };
@@ -32,81 +32,113 @@ pub fn copies() -> Vec<WrongCopy> {
 /// 1,000,000.
 fn rule_copies() -> [WrongCopy; 9] {
     [
-        checking("week-limit-below-the-shift-limit", |bytes, junctions| {
-            check_by(bytes, junctions, |_, by| by.rules[10].1 = true)
-        }),
+        checking(
+            "week-limit-below-the-shift-limit",
+            |bytes, bans, junctions, roads| {
+                check_by(bytes, bans, junctions, roads, |_, by| by.rules[10].1 = true)
+            },
+        ),
         checking(
             "week-limit-charged-to-the-shift-limit",
-            |bytes, junctions| check_by(bytes, junctions, |_, by| by.rules[10].0 = 8),
+            |bytes, bans, junctions, roads| {
+                check_by(bytes, bans, junctions, roads, |_, by| by.rules[10].0 = 8)
+            },
         ),
         checking(
             "week-limit-as-the-shift-limit-refused",
-            |bytes, junctions| {
-                check_by(bytes, junctions, |order, by| {
+            |bytes, bans, junctions, roads| {
+                check_by(bytes, bans, junctions, roads, |order, by| {
                     by.rules[10].1 = order.shift_limit < order.week_limit
                 })
             },
         ),
-        checking("week-limit-above-a-million", |bytes, junctions| {
-            check_by(bytes, junctions, |_, by| by.rules[11].1 = true)
-        }),
-        checking("weekly-rest-below-the-rest", |bytes, junctions| {
-            check_by(bytes, junctions, |_, by| by.rules[12].1 = true)
-        }),
-        checking("weekly-rest-charged-to-the-rest", |bytes, junctions| {
-            check_by(bytes, junctions, |_, by| by.rules[12].0 = 9)
-        }),
-        checking("weekly-rest-as-the-rest-refused", |bytes, junctions| {
-            check_by(bytes, junctions, |order, by| {
-                by.rules[12].1 = order.rest_time < order.weekly_rest
-            })
-        }),
-        checking("weekly-rest-above-a-million", |bytes, junctions| {
-            check_by(bytes, junctions, |_, by| by.rules[13].1 = true)
-        }),
+        checking(
+            "week-limit-above-a-million",
+            |bytes, bans, junctions, roads| {
+                check_by(bytes, bans, junctions, roads, |_, by| by.rules[11].1 = true)
+            },
+        ),
+        checking(
+            "weekly-rest-below-the-rest",
+            |bytes, bans, junctions, roads| {
+                check_by(bytes, bans, junctions, roads, |_, by| by.rules[12].1 = true)
+            },
+        ),
+        checking(
+            "weekly-rest-charged-to-the-rest",
+            |bytes, bans, junctions, roads| {
+                check_by(bytes, bans, junctions, roads, |_, by| by.rules[12].0 = 9)
+            },
+        ),
+        checking(
+            "weekly-rest-as-the-rest-refused",
+            |bytes, bans, junctions, roads| {
+                check_by(bytes, bans, junctions, roads, |order, by| {
+                    by.rules[12].1 = order.rest_time < order.weekly_rest
+                })
+            },
+        ),
+        checking(
+            "weekly-rest-above-a-million",
+            |bytes, bans, junctions, roads| {
+                check_by(bytes, bans, junctions, roads, |_, by| by.rules[13].1 = true)
+            },
+        ),
         checking("order-of-48-bytes-accepted", order_of_48_bytes_accepted),
     ]
 }
 
 /// With Europe's week, and none of it driven but the shift.
-fn order_of_48_bytes_accepted(bytes: &[u8], junctions: u32) -> Reply {
+fn order_of_48_bytes_accepted(bytes: &[u8], bans: &[u32], junctions: u32, roads: u32) -> Reply {
     if bytes.len() != ORDER_BYTES - 12 {
-        return check_order(bytes, junctions);
+        return check_order(bytes, bans, junctions, roads);
     }
     let [.., week_limit, weekly_rest] = EUROPEAN_RULES;
     let week = bytes_of(&[week_limit, weekly_rest, word(bytes, 20)]);
-    check_order(&[bytes, &week].concat(), junctions)
+    check_order(&[bytes, &week].concat(), bans, junctions, roads)
 }
 
 /// The last two rules of the trip are those on word 14: not below the shift, and at most its limit.
 fn figure_copies() -> [WrongCopy; 7] {
     [
-        checking("week-below-the-shift", |bytes, junctions| {
-            check_by(bytes, junctions, |_, by| by.trip[7].1 = true)
+        checking("week-below-the-shift", |bytes, bans, junctions, roads| {
+            check_by(bytes, bans, junctions, roads, |_, by| by.trip[7].1 = true)
         }),
-        checking("week-charged-to-the-shift", |bytes, junctions| {
-            check_by(bytes, junctions, |_, by| by.trip[7].0 = 5)
+        checking(
+            "week-charged-to-the-shift",
+            |bytes, bans, junctions, roads| {
+                check_by(bytes, bans, junctions, roads, |_, by| by.trip[7].0 = 5)
+            },
+        ),
+        checking("week-above-its-limit", |bytes, bans, junctions, roads| {
+            check_by(bytes, bans, junctions, roads, |_, by| by.trip[8].1 = true)
         }),
-        checking("week-above-its-limit", |bytes, junctions| {
-            check_by(bytes, junctions, |_, by| by.trip[8].1 = true)
-        }),
-        checking("week-charged-to-its-limit", |bytes, junctions| {
-            check_by(bytes, junctions, |_, by| by.trip[8].0 = 12)
-        }),
-        checking("week-at-its-limit-refused", |bytes, junctions| {
-            check_by(bytes, junctions, |order, by| {
-                by.trip[8].1 = order.week < order.week_limit
-            })
-        }),
-        checking("week-before-the-rest-of-the-trip", |bytes, junctions| {
-            check_by(bytes, junctions, |_, by| {
-                if by.trip[7..].iter().any(|(_, holds)| !holds) {
-                    by.trip.drain(..7);
-                }
-            })
-        }),
-        checking("week-under-bad-rules", |bytes, junctions| {
-            check_by(bytes, junctions, |_, by| {
+        checking(
+            "week-charged-to-its-limit",
+            |bytes, bans, junctions, roads| {
+                check_by(bytes, bans, junctions, roads, |_, by| by.trip[8].0 = 12)
+            },
+        ),
+        checking(
+            "week-at-its-limit-refused",
+            |bytes, bans, junctions, roads| {
+                check_by(bytes, bans, junctions, roads, |order, by| {
+                    by.trip[8].1 = order.week < order.week_limit
+                })
+            },
+        ),
+        checking(
+            "week-before-the-rest-of-the-trip",
+            |bytes, bans, junctions, roads| {
+                check_by(bytes, bans, junctions, roads, |_, by| {
+                    if by.trip[7..].iter().any(|(_, holds)| !holds) {
+                        by.trip.drain(..7);
+                    }
+                })
+            },
+        ),
+        checking("week-under-bad-rules", |bytes, bans, junctions, roads| {
+            check_by(bytes, bans, junctions, roads, |_, by| {
                 by.rules.extend(by.trip.drain(7..));
             })
         }),
@@ -272,16 +304,17 @@ impl Planner for NineWords {
 fn preview_of_nine_words(
     map: &mut [u8],
     order: &[u8],
+    bans: &[u32],
     road: u32,
     labels: &mut [u32],
     sheet: &mut [u8],
 ) -> Reply {
-    if let Err(refused) = Trip::open(map, order) {
+    if let Err(refused) = accepted_run(map, order) {
         return refused;
     }
     let mut copy = map.to_vec();
     match strike(&mut copy, road) {
-        Reply { number: 0, .. } => plan::<NineWords>(&copy, order, labels, sheet),
+        Reply { number: 0, .. } => plan::<NineWords>(&copy, order, bans, labels, sheet),
         refused => refused,
     }
 }
@@ -323,8 +356,14 @@ fn exchange(sheet: &mut [u8]) {
     put_word(sheet, 20, week);
 }
 
-fn plan_exchanged(map: &[u8], order: &[u8], labels: &mut [u32], sheet: &mut [u8]) -> Reply {
-    let reply = right_plan(map, order, labels, sheet);
+fn plan_exchanged(
+    map: &[u8],
+    order: &[u8],
+    bans: &[u32],
+    labels: &mut [u32],
+    sheet: &mut [u8],
+) -> Reply {
+    let reply = right_plan(map, order, bans, labels, sheet);
     if reply.number == 0 {
         exchange(sheet);
     }
@@ -339,44 +378,68 @@ fn needing_less(reply: Reply) -> Reply {
     }
 }
 
-fn plan_needs_less(map: &[u8], order: &[u8], labels: &mut [u32], sheet: &mut [u8]) -> Reply {
-    needing_less(right_plan(map, order, labels, sheet))
+fn plan_needs_less(
+    map: &[u8],
+    order: &[u8],
+    bans: &[u32],
+    labels: &mut [u32],
+    sheet: &mut [u8],
+) -> Reply {
+    needing_less(right_plan(map, order, bans, labels, sheet))
 }
 
-fn plan_fits_in_less(map: &[u8], order: &[u8], labels: &mut [u32], sheet: &mut [u8]) -> Reply {
+fn plan_fits_in_less(
+    map: &[u8],
+    order: &[u8],
+    bans: &[u32],
+    labels: &mut [u32],
+    sheet: &mut [u8],
+) -> Reply {
     let mut longer = [&*sheet, &[0; WEEK_BYTES]].concat();
-    let reply = right_plan(map, order, labels, &mut longer);
+    let reply = right_plan(map, order, bans, labels, &mut longer);
     let kept = sheet.len();
     sheet.copy_from_slice(&longer[..kept]);
     reply
 }
 
-fn retime_exchanged(map: &[u8], order: &[u8], sheet: &[u8], out: &mut [u8]) -> Reply {
-    let reply = retime::<Document>(map, order, sheet, out);
+fn retime_exchanged(map: &[u8], order: &[u8], bans: &[u32], sheet: &[u8], out: &mut [u8]) -> Reply {
+    let reply = retime::<Document>(map, order, bans, sheet, out);
     if reply.number == 0 {
         exchange(out);
     }
     reply
 }
 
-fn count_from_byte_16(map: &[u8], order: &[u8], sheet: &[u8], out: &mut [u8]) -> Reply {
-    let reply = retime::<Document>(map, order, sheet, out);
+fn count_from_byte_16(
+    map: &[u8],
+    order: &[u8],
+    bans: &[u32],
+    sheet: &[u8],
+    out: &mut [u8],
+) -> Reply {
+    let reply = retime::<Document>(map, order, bans, sheet, out);
     if reply.number == 0 {
         put_word(out, 20, word(sheet, 16));
     }
     reply
 }
 
-fn week_copied(map: &[u8], order: &[u8], sheet: &[u8], out: &mut [u8]) -> Reply {
-    let reply = retime::<Document>(map, order, sheet, out);
+fn week_copied(map: &[u8], order: &[u8], bans: &[u32], sheet: &[u8], out: &mut [u8]) -> Reply {
+    let reply = retime::<Document>(map, order, bans, sheet, out);
     if reply.number == 0 {
         put_word(out, 16, word(sheet, 16));
     }
     reply
 }
 
-fn retime_needs_less(map: &[u8], order: &[u8], sheet: &[u8], out: &mut [u8]) -> Reply {
-    needing_less(retime::<Document>(map, order, sheet, out))
+fn retime_needs_less(
+    map: &[u8],
+    order: &[u8],
+    bans: &[u32],
+    sheet: &[u8],
+    out: &mut [u8],
+) -> Reply {
+    needing_less(retime::<Document>(map, order, bans, sheet, out))
 }
 
 /// The sheet with a week put into its header, if it has as many bytes as its moves ask for without one.
@@ -389,38 +452,44 @@ fn with_week(sheet: &[u8]) -> Vec<u8> {
     [&sheet[..16], &[0; WEEK_BYTES], &sheet[16..]].concat()
 }
 
-fn retime_without_week(map: &[u8], order: &[u8], sheet: &[u8], out: &mut [u8]) -> Reply {
-    retime::<Document>(map, order, &with_week(sheet), out)
+fn retime_without_week(
+    map: &[u8],
+    order: &[u8],
+    bans: &[u32],
+    sheet: &[u8],
+    out: &mut [u8],
+) -> Reply {
+    retime::<Document>(map, order, bans, &with_week(sheet), out)
 }
 
-fn audit_without_week(map: &[u8], order: &[u8], sheet: &[u8]) -> Reply {
-    audit::<Document>(map, order, &with_week(sheet))
+fn audit_without_week(map: &[u8], order: &[u8], bans: &[u32], sheet: &[u8]) -> Reply {
+    audit::<Document>(map, order, bans, &with_week(sheet))
 }
 
 /// The sheet as given and as retimed, if it can be.
-fn given_and_true(map: &[u8], order: &[u8], sheet: &[u8]) -> Option<(Sheet, Sheet)> {
+fn given_and_true(map: &[u8], order: &[u8], bans: &[u32], sheet: &[u8]) -> Option<(Sheet, Sheet)> {
     let mut retimed = sheet.to_vec();
-    let reply = retime::<Document>(map, order, sheet, &mut retimed);
+    let reply = retime::<Document>(map, order, bans, sheet, &mut retimed);
     (reply.number == 0).then_some((Sheet::read(sheet)?, Sheet::read(&retimed)?))
 }
 
-fn audit_ignores_week(map: &[u8], order: &[u8], sheet: &[u8]) -> Reply {
-    match given_and_true(map, order, sheet) {
+fn audit_ignores_week(map: &[u8], order: &[u8], bans: &[u32], sheet: &[u8]) -> Reply {
+    match given_and_true(map, order, bans, sheet) {
         Some((mut given, truly)) => {
             given.week = truly.week;
-            audit::<Document>(map, order, &given.bytes())
+            audit::<Document>(map, order, bans, &given.bytes())
         }
-        None => audit::<Document>(map, order, sheet),
+        None => audit::<Document>(map, order, bans, sheet),
     }
 }
 
-fn week_from_byte_20(map: &[u8], order: &[u8], sheet: &[u8]) -> Reply {
+fn week_from_byte_20(map: &[u8], order: &[u8], bans: &[u32], sheet: &[u8]) -> Reply {
     match Sheet::read(sheet) {
         Some(mut given) => {
             given.week = given.labels;
-            audit::<Document>(map, order, &given.bytes())
+            audit::<Document>(map, order, bans, &given.bytes())
         }
-        None => audit::<Document>(map, order, sheet),
+        None => audit::<Document>(map, order, bans, sheet),
     }
 }
 
