@@ -1,5 +1,7 @@
 //! Deliberately wrong copies: `compare` must find each.
 
+mod ban_lists;
+mod bans;
 mod closures;
 mod shared;
 mod splits;
@@ -12,8 +14,7 @@ use crate::mapcheck::{check_map, MOST_JUNCTIONS};
 use crate::moves::{Document, Move, Offer, State, Trip, BREAK, DRIVE, REST};
 use crate::names::name;
 use crate::operations::{
-    LentFigures, LentRules, NameAnswer, Operations, PlanFunction, ReplayFunction, RetimeFunction,
-    DOCUMENT,
+    LentFigures, LentRules, NameAnswer, Operations, PlanFunction, ReplayFunction, DOCUMENT,
 };
 use crate::order::{check_order, refuse_broken, Order, ORDER_BYTES};
 use crate::planning::{labels_that_fit, plan, Planner};
@@ -24,6 +25,7 @@ use crate::reply::*;
 use crate::retiming::{audit, retime};
 use crate::sheet::{sheet_bytes, Sheet};
 use crate::words::{put_word, word};
+use shared::{with_audit, with_plan, with_retime};
 
 #[derive(Clone, Copy)]
 pub struct WrongCopy {
@@ -57,36 +59,24 @@ pub fn wrong_copies() -> Vec<WrongCopy> {
         ("plan-clears-tail", plan_clears_tail),
         ("labels-touched-early", labels_touched_early),
     ];
-    let with_plan = |(name, plan)| WrongCopy {
-        name,
-        operations: Operations { plan, ..DOCUMENT },
-    };
-    let mut copies: Vec<WrongCopy> = planning.map(with_plan).into();
+    let mut copies = planning.map(|(name, plan)| with_plan(name, plan)).to_vec();
     copies.extend(other_copies());
     copies.extend(check_copies());
     copies.extend(replay_copies());
     copies.extend(splits::copies());
     copies.extend(weeks::copies());
     copies.extend(closures::copies());
+    copies.extend(bans::copies());
+    copies.extend(ban_lists::copies());
     copies
 }
 
 fn other_copies() -> Vec<WrongCopy> {
-    let with_retime = |name, retime: RetimeFunction| WrongCopy {
-        name,
-        operations: Operations { retime, ..DOCUMENT },
-    };
     vec![
         with_retime("retime-copies-clocks", retime_copies_clocks),
         with_retime("retime-clears-tail", retime_clears_tail),
         with_retime("retime-short-before-stray", retime_short_before_stray),
-        WrongCopy {
-            name: "audit-ignores-shift",
-            operations: Operations {
-                audit: audit_ignores_shift,
-                ..DOCUMENT
-            },
-        },
+        with_audit("audit-ignores-shift", audit_ignores_shift),
         WrongCopy {
             name: "name-from-map-start",
             operations: Operations {

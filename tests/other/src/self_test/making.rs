@@ -114,7 +114,7 @@ pub fn plans_pass_their_audit() {
 }
 
 /// Wrong copies that the laws alone must find, without a second implementation.
-const UNLAWFUL: [&str; 15] = [
+const UNLAWFUL: [&str; 20] = [
     "full-when-just-enough",
     "invented-count",
     "sheet-unwritten",
@@ -130,6 +130,11 @@ const UNLAWFUL: [&str; 15] = [
     "preview-strikes-the-lent-map",
     "preview-of-an-undriven-road-is-the-plan",
     "preview-counts-the-open-labels",
+    "list-ignored-in-previews",
+    "roads-not-listed-banned-in-plans",
+    "equal-neighbours-accepted",
+    "bad-bans-behind-full",
+    "bad-bans-behind-a-torn-sheet",
 ];
 
 pub fn laws_notice_wrong_copies() {

@@ -3,7 +3,10 @@
 use super::WrongCopy;
 use crate::bans::accepted_bans;
 use crate::moves::{Move, Offer, State, Trip};
-use crate::operations::{CheckOrderFunction, Operations, DOCUMENT};
+use crate::operations::{
+    AuditFunction, CheckOrderFunction, Operations, PlanFunction, PreviewFunction, RetimeFunction,
+    DOCUMENT,
+};
 use crate::order::{check_order, refuse_broken, Order, ORDER_BYTES};
 use crate::planning::{plan, Planner};
 use crate::reply::*;
@@ -48,6 +51,29 @@ pub fn checking(name: &'static str, check_order: CheckOrderFunction) -> WrongCop
             ..DOCUMENT
         },
     }
+}
+
+pub fn with_plan(name: &'static str, plan: PlanFunction) -> WrongCopy {
+    let operations = Operations { plan, ..DOCUMENT };
+    WrongCopy { name, operations }
+}
+
+pub fn with_preview(name: &'static str, preview: PreviewFunction) -> WrongCopy {
+    let operations = Operations {
+        preview,
+        ..DOCUMENT
+    };
+    WrongCopy { name, operations }
+}
+
+pub fn with_retime(name: &'static str, retime: RetimeFunction) -> WrongCopy {
+    let operations = Operations { retime, ..DOCUMENT };
+    WrongCopy { name, operations }
+}
+
+pub fn with_audit(name: &'static str, audit: AuditFunction) -> WrongCopy {
+    let operations = Operations { audit, ..DOCUMENT };
+    WrongCopy { name, operations }
 }
 
 pub fn planning<P: Planner>(name: &'static str) -> WrongCopy {

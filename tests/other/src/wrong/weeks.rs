@@ -6,9 +6,7 @@ use std::cmp::Ordering;
 use super::shared::*;
 use super::{default_half, right_plan, right_replay, WrongCopy};
 use crate::moves::{accepted_run, Document, Move, Offer, State, Trip, BREAK, DRIVE, REST, WEEKLY};
-use crate::operations::{
-    LentFigures, LentRules, Operations, PlanFunction, ReplayFunction, RetimeFunction, DOCUMENT,
-};
+use crate::operations::{LentFigures, LentRules, Operations, ReplayFunction, DOCUMENT};
 use crate::order::{check_order, Order, EUROPEAN_RULES, ORDER_BYTES};
 use crate::planning::{plan, Planner, MOST_LABELS, WORDS_OF_A_LABEL};
 use crate::replay::{replay, Hours, Replayer, TraceRecord, DRIVING, OTHER_WORK};
@@ -320,18 +318,6 @@ fn preview_of_nine_words(
 }
 
 fn sheet_copies() -> Vec<WrongCopy> {
-    let with_plan = |name, plan: PlanFunction| WrongCopy {
-        name,
-        operations: Operations { plan, ..DOCUMENT },
-    };
-    let with_retime = |name, retime: RetimeFunction| WrongCopy {
-        name,
-        operations: Operations { retime, ..DOCUMENT },
-    };
-    let with_audit = |name, audit| WrongCopy {
-        name,
-        operations: Operations { audit, ..DOCUMENT },
-    };
     vec![
         with_plan("plan-exchanges-week-and-count", plan_exchanged),
         with_plan("plan-needs-20-and-12-bytes-a-move", plan_needs_less),
