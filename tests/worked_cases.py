@@ -9,6 +9,7 @@ Both ask the other planner, which must be built, and fail where it does not agre
 import pathlib
 import sys
 
+import ban_cases
 import case_files
 import map_cases
 import plan_cases
