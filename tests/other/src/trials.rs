@@ -40,32 +40,29 @@ fn answer_next(stored: &mut &[u8]) -> String {
             let name = String::from_utf8_lossy(&map[offset..offset + length]);
             format!("{} <{name}>", line(reply))
         }
-        b'c' => {
-            let mut written = map.to_vec();
-            let reply = (DOCUMENT.make_chains)(&mut written);
-            format!("{} {}", line(reply), hexadecimal(&written))
-        }
-        b'r' => {
-            let mut out = vec![0xEE; number];
-            let reply = (DOCUMENT.retime)(map, order, bans, sheet, &mut out);
-            format!("{} {}", line(reply), hexadecimal(&out))
-        }
+        b'c' => written(map, |map| (DOCUMENT.make_chains)(map)),
+        b'r' => written(&vec![0xEE; number], |out| {
+            (DOCUMENT.retime)(map, order, bans, sheet, out)
+        }),
         b'a' => line((DOCUMENT.audit)(map, order, bans, sheet)),
         b'p' => planned(vec![number as u32; label_words], sheet, |words, lent| {
             (DOCUMENT.plan)(map, order, bans, words, lent)
         }),
         b't' => replayed(order, number as u32, sheet),
-        b's' => {
-            let mut written = map.to_vec();
-            let reply = (DOCUMENT.strike)(&mut written, number as u32);
-            format!("{} {}", line(reply), hexadecimal(&written))
-        }
+        b's' => written(map, |map| (DOCUMENT.strike)(map, number as u32)),
         b'v' => planned(vec![MARKED_WORD; label_words], sheet, |words, lent| {
             (DOCUMENT.preview)(&mut map.to_vec(), order, bans, number as u32, words, lent)
         }),
         other => format!("unknown kind {other}"),
     };
     format!("{title}: {answer}\n")
+}
+
+/// The reply, and what lent bytes hold afterwards.
+fn written(before: &[u8], write: impl FnOnce(&mut [u8]) -> Reply) -> String {
+    let mut lent = before.to_vec();
+    let reply = write(&mut lent);
+    format!("{} {}", line(reply), hexadecimal(&lent))
 }
 
 /// The reply, the sheet afterwards and, where the search was not begun, whether the label words stayed.

@@ -53,6 +53,16 @@ pub fn checking(name: &'static str, check_order: CheckOrderFunction) -> WrongCop
     }
 }
 
+/// A copy of the order check in which some verdicts are changed.
+macro_rules! judging {
+    ($name:literal, |$order:pat_param, $by:ident| $change:expr) => {
+        checking($name, |bytes, bans, junctions, roads| {
+            check_by(bytes, bans, junctions, roads, |$order, $by| $change)
+        })
+    };
+}
+pub(super) use judging;
+
 pub fn with_plan(name: &'static str, plan: PlanFunction) -> WrongCopy {
     let operations = Operations { plan, ..DOCUMENT };
     WrongCopy { name, operations }

@@ -23,46 +23,24 @@ pub fn copies() -> Vec<WrongCopy> {
 /// The parts' rules are those from 6 on: each part at most the break, and then not alone zero.
 fn order_copies() -> [WrongCopy; 6] {
     [
-        checking(
-            "first-part-alone-zero-accepted",
-            |bytes, bans, junctions, roads| {
-                check_by(bytes, bans, junctions, roads, |_, by| by.rules[7].1 = true)
-            },
-        ),
-        checking(
-            "second-part-alone-zero-accepted",
-            |bytes, bans, junctions, roads| {
-                check_by(bytes, bans, junctions, roads, |_, by| by.rules[9].1 = true)
-            },
-        ),
-        checking(
-            "lone-zero-charged-to-the-other",
-            |bytes, bans, junctions, roads| {
-                check_by(bytes, bans, junctions, roads, |_, by| {
-                    (by.rules[7].0, by.rules[9].0) = (11, 10)
-                })
-            },
-        ),
-        checking(
-            "first-part-above-the-break",
-            |bytes, bans, junctions, roads| {
-                check_by(bytes, bans, junctions, roads, |_, by| by.rules[6].1 = true)
-            },
-        ),
-        checking(
-            "second-part-above-the-break",
-            |bytes, bans, junctions, roads| {
-                check_by(bytes, bans, junctions, roads, |_, by| by.rules[8].1 = true)
-            },
-        ),
-        checking(
-            "part-as-long-as-the-break-refused",
-            |bytes, bans, junctions, roads| {
-                check_by(bytes, bans, junctions, roads, |order, by| {
-                    by.rules[6].1 = order.first_part < order.break_time
-                })
-            },
-        ),
+        judging!("first-part-alone-zero-accepted", |_, by| {
+            by.rules[7].1 = true
+        }),
+        judging!("second-part-alone-zero-accepted", |_, by| {
+            by.rules[9].1 = true
+        }),
+        judging!("lone-zero-charged-to-the-other", |_, by| {
+            (by.rules[7].0, by.rules[9].0) = (11, 10)
+        }),
+        judging!("first-part-above-the-break", |_, by| {
+            by.rules[6].1 = true
+        }),
+        judging!("second-part-above-the-break", |_, by| {
+            by.rules[8].1 = true
+        }),
+        judging!("part-as-long-as-the-break-refused", |order, by| {
+            by.rules[6].1 = order.first_part < order.break_time
+        }),
     ]
 }
 

@@ -30,58 +30,30 @@ pub fn copies() -> Vec<WrongCopy> {
 /// 1,000,000.
 fn rule_copies() -> [WrongCopy; 9] {
     [
-        checking(
-            "week-limit-below-the-shift-limit",
-            |bytes, bans, junctions, roads| {
-                check_by(bytes, bans, junctions, roads, |_, by| by.rules[10].1 = true)
-            },
-        ),
-        checking(
-            "week-limit-charged-to-the-shift-limit",
-            |bytes, bans, junctions, roads| {
-                check_by(bytes, bans, junctions, roads, |_, by| by.rules[10].0 = 8)
-            },
-        ),
-        checking(
-            "week-limit-as-the-shift-limit-refused",
-            |bytes, bans, junctions, roads| {
-                check_by(bytes, bans, junctions, roads, |order, by| {
-                    by.rules[10].1 = order.shift_limit < order.week_limit
-                })
-            },
-        ),
-        checking(
-            "week-limit-above-a-million",
-            |bytes, bans, junctions, roads| {
-                check_by(bytes, bans, junctions, roads, |_, by| by.rules[11].1 = true)
-            },
-        ),
-        checking(
-            "weekly-rest-below-the-rest",
-            |bytes, bans, junctions, roads| {
-                check_by(bytes, bans, junctions, roads, |_, by| by.rules[12].1 = true)
-            },
-        ),
-        checking(
-            "weekly-rest-charged-to-the-rest",
-            |bytes, bans, junctions, roads| {
-                check_by(bytes, bans, junctions, roads, |_, by| by.rules[12].0 = 9)
-            },
-        ),
-        checking(
-            "weekly-rest-as-the-rest-refused",
-            |bytes, bans, junctions, roads| {
-                check_by(bytes, bans, junctions, roads, |order, by| {
-                    by.rules[12].1 = order.rest_time < order.weekly_rest
-                })
-            },
-        ),
-        checking(
-            "weekly-rest-above-a-million",
-            |bytes, bans, junctions, roads| {
-                check_by(bytes, bans, junctions, roads, |_, by| by.rules[13].1 = true)
-            },
-        ),
+        judging!("week-limit-below-the-shift-limit", |_, by| {
+            by.rules[10].1 = true
+        }),
+        judging!("week-limit-charged-to-the-shift-limit", |_, by| {
+            by.rules[10].0 = 8
+        }),
+        judging!("week-limit-as-the-shift-limit-refused", |order, by| {
+            by.rules[10].1 = order.shift_limit < order.week_limit
+        }),
+        judging!("week-limit-above-a-million", |_, by| {
+            by.rules[11].1 = true
+        }),
+        judging!("weekly-rest-below-the-rest", |_, by| {
+            by.rules[12].1 = true
+        }),
+        judging!("weekly-rest-charged-to-the-rest", |_, by| {
+            by.rules[12].0 = 9
+        }),
+        judging!("weekly-rest-as-the-rest-refused", |order, by| {
+            by.rules[12].1 = order.rest_time < order.weekly_rest
+        }),
+        judging!("weekly-rest-above-a-million", |_, by| {
+            by.rules[13].1 = true
+        }),
         checking("order-of-48-bytes-accepted", order_of_48_bytes_accepted),
     ]
 }
@@ -99,46 +71,20 @@ fn order_of_48_bytes_accepted(bytes: &[u8], bans: &[u32], junctions: u32, roads:
 /// The last two rules of the trip are those on word 14: not below the shift, and at most its limit.
 fn figure_copies() -> [WrongCopy; 7] {
     [
-        checking("week-below-the-shift", |bytes, bans, junctions, roads| {
-            check_by(bytes, bans, junctions, roads, |_, by| by.trip[7].1 = true)
+        judging!("week-below-the-shift", |_, by| { by.trip[7].1 = true }),
+        judging!("week-charged-to-the-shift", |_, by| { by.trip[7].0 = 5 }),
+        judging!("week-above-its-limit", |_, by| { by.trip[8].1 = true }),
+        judging!("week-charged-to-its-limit", |_, by| { by.trip[8].0 = 12 }),
+        judging!("week-at-its-limit-refused", |order, by| {
+            by.trip[8].1 = order.week < order.week_limit
         }),
-        checking(
-            "week-charged-to-the-shift",
-            |bytes, bans, junctions, roads| {
-                check_by(bytes, bans, junctions, roads, |_, by| by.trip[7].0 = 5)
-            },
-        ),
-        checking("week-above-its-limit", |bytes, bans, junctions, roads| {
-            check_by(bytes, bans, junctions, roads, |_, by| by.trip[8].1 = true)
+        judging!("week-before-the-rest-of-the-trip", |_, by| {
+            if by.trip[7..].iter().any(|(_, holds)| !holds) {
+                by.trip.drain(..7);
+            }
         }),
-        checking(
-            "week-charged-to-its-limit",
-            |bytes, bans, junctions, roads| {
-                check_by(bytes, bans, junctions, roads, |_, by| by.trip[8].0 = 12)
-            },
-        ),
-        checking(
-            "week-at-its-limit-refused",
-            |bytes, bans, junctions, roads| {
-                check_by(bytes, bans, junctions, roads, |order, by| {
-                    by.trip[8].1 = order.week < order.week_limit
-                })
-            },
-        ),
-        checking(
-            "week-before-the-rest-of-the-trip",
-            |bytes, bans, junctions, roads| {
-                check_by(bytes, bans, junctions, roads, |_, by| {
-                    if by.trip[7..].iter().any(|(_, holds)| !holds) {
-                        by.trip.drain(..7);
-                    }
-                })
-            },
-        ),
-        checking("week-under-bad-rules", |bytes, bans, junctions, roads| {
-            check_by(bytes, bans, junctions, roads, |_, by| {
-                by.rules.extend(by.trip.drain(7..));
-            })
+        judging!("week-under-bad-rules", |_, by| {
+            by.rules.extend(by.trip.drain(7..));
         }),
     ]
 }
