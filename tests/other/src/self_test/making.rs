@@ -54,7 +54,7 @@ pub fn practice_maps() {
     );
 }
 
-/// Both runs are accepted, and B has all that A has.
+/// Both runs are accepted, and B has all that A has, but for bans: of those it has no others.
 pub fn pairs_make_nothing_worse() {
     for case in cases() {
         let Some(easier) = &case.easier else {
@@ -69,6 +69,7 @@ pub fn pairs_make_nothing_worse() {
         for (one, other) in a.map.junctions.iter().zip(&b.map.junctions) {
             assert!(other.car_park >= one.car_park);
         }
+        assert!(b.bans.iter().all(|banned| a.bans.contains(banned)));
         let (a, b) = (a.order.words(), b.order.words());
         assert_eq!(a[..4], b[..4]);
         let no_higher = [4, 5, 7, 9, 13, 14];
