@@ -24,6 +24,12 @@ MOST_BYTES = 65536
 SMALL_TRIPS = 1000
 FOLDER = object()  # in place of a file's bytes: a folder stands there, which cannot be read as a file
 T = map_t().bytes()
+T_LISTING_ON_SUNDAY = """\
+drive 1 Lay 97200
+break 2 Lay 99900
+drive 2 End 107100
+arrive 107100 7200 18000 labels 4
+"""
 RUNS = []
 LISTED = []  # the runs whose text the other planner gives
 
@@ -66,6 +72,7 @@ def bad_road():
 
 
 run("map T", T_LISTING, T, order())
+run("T on Sunday 2 January 2000: no road is banned", T_LISTING_ON_SUNDAY, T, order(w2=86400, w3=186400))
 run("T, latest one second before the arrival", "refused 13 3\n", T, order(w3=20699))
 
 # --- files that are missing, cannot be read or are refused --------------------------------------------
