@@ -1,10 +1,13 @@
-/* What the examples share: words as bytes, a refusal in words, and the lines of a plan. */
+/* What the examples share: an empty ban list, words as bytes, a refusal in words, and the lines of a plan. */
 #ifndef LISTING_H
 #define LISTING_H
 
 #include <inttypes.h>
 #include <stdio.h>
 #include "trunk.h"
+
+/* With a count of 0: the pointer is not NULL. */
+static const uint32_t no_bans[1];
 
 static void put_words(uint8_t *bytes, const uint32_t *words, size_t count) {
     for (size_t i = 0; i < count; i++) {

@@ -19,7 +19,8 @@ int main(void) {
     make_map();
     put_words(order, order_words, ORDER_WORDS);
 
-    trunk_plan(map, sizeof map, order, sizeof order, words, sizeof words / sizeof *words, sheet, sizeof sheet, reply, 3);
+    trunk_plan(map, sizeof map, order, sizeof order, no_bans, 0, words, sizeof words / sizeof *words, sheet, sizeof sheet,
+               reply, 3);
     if (refused(reply)) {
         return 1;
     }

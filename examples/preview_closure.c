@@ -33,14 +33,14 @@ static const size_t word_count = sizeof words / sizeof *words;
 
 /* Whether there is a plan. */
 static int plan(uint64_t *reply) {
-    trunk_plan(map, sizeof map, order, sizeof order, words, word_count, sheet, sizeof sheet, reply, 3);
+    trunk_plan(map, sizeof map, order, sizeof order, no_bans, 0, words, word_count, sheet, sizeof sheet, reply, 3);
     return !refused(reply);
 }
 
 /* What the road's closure costs; the map stays as it is. Whether the preview has an answer. */
 static int preview(uint32_t road, uint64_t arrival) {
     uint64_t reply[3];
-    trunk_preview(map, sizeof map, order, sizeof order, road, words, word_count, sheet, sizeof sheet, reply, 3);
+    trunk_preview(map, sizeof map, order, sizeof order, no_bans, 0, road, words, word_count, sheet, sizeof sheet, reply, 3);
     if (reply[0] == TRUNK_NO_ROAD) {
         printf("road %u closed: no road is left\n", road);
         return 1;

@@ -26,7 +26,8 @@ static int plan(uint32_t *order_words, const uint32_t *figures) {
     order_words[SHIFT] = figures[1];
     order_words[WEEK] = figures[2];
     put_words(order, order_words, ORDER_WORDS);
-    trunk_plan(map, sizeof map, order, sizeof order, words, sizeof words / sizeof *words, sheet, sizeof sheet, reply, 3);
+    trunk_plan(map, sizeof map, order, sizeof order, no_bans, 0, words, sizeof words / sizeof *words, sheet, sizeof sheet,
+               reply, 3);
     if (refused(reply)) {
         return 0;
     }

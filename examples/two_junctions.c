@@ -38,7 +38,8 @@ int main(void) {
     memcpy(map + 4 * MAP_WORDS, "AB", NAME_BYTES);
     put_words(order, order_words, ORDER_WORDS);
 
-    trunk_plan(map, sizeof map, order, sizeof order, words, sizeof words / sizeof *words, sheet, sizeof sheet, reply, 3);
+    trunk_plan(map, sizeof map, order, sizeof order, no_bans, 0, words, sizeof words / sizeof *words, sheet, sizeof sheet,
+               reply, 3);
     if (refused(reply)) {
         return 1;
     }

@@ -13,12 +13,18 @@
  * No function keeps anything between calls, allocates, prints or fails in another way than by its reply. Calls from
  * several threads need no lock as long as nobody writes what another call is lent.
  *
- * Formats: maps, orders, sheets and traces are bytes, with 32-bit words in little-endian order. Label space, rules,
- * figures and replies are numbers of the machine. docs/FORMATS.md describes every word of them, each refusal, and the
- * words used here, and writes a small map and its order out.
+ * Formats: maps, orders, sheets and traces are bytes, with 32-bit words in little-endian order. Ban lists, label space,
+ * rules, figures and replies are numbers of the machine. docs/FORMATS.md describes every word of them, each refusal, and
+ * the words used here, and writes a small map and its order out.
  *
  * A road takes 18 * metres / (5 * km per hour) seconds, to the nearest second, an exact half to the even one, and never
  * below 1: 25 m at 36 km per hour take 2, 35 m take 4 and 5 m take 1.
+ *
+ * Beside an order goes its ban list: the numbers of the banned roads, rising, as 32-bit numbers. An empty list, no ban at
+ * all, is any pointer that is not NULL with a count of 0. A banned road may not be entered from 00:00:00 on and before
+ * 22:00:00 on Sundays, Good Friday, Easter Monday, Ascension and Whit Monday: a lorry that comes then queues until 22:00 of
+ * that day. Only the moment of entry counts. The queue is neither driving nor a pause: the clock alone sees it, and no car
+ * park is needed. Clock 0 is then 00:00 on 1 January 2000, a Saturday.
  *
  * The reply is three numbers: number, place, arrival. Number 0 is a success; any other is a refusal, listed below, whose
  * place says where and whose arrival is 0; trunk_refusal_text tells it in a sentence. A refusal changes no byte of a map
@@ -28,8 +34,8 @@
  *
  * Stack, measured with the library of this version. In its machine code frames are fixed and nothing recurses, and no
  * path through it reserves a hundred bytes more, the C library's memset aside:
- *     trunk_plan and trunk_preview  153,890 bytes; leave TRUNK_PLAN_STACK_BYTES, 256 KiB
- *     every other function   at most 49,847 bytes; leave TRUNK_STACK_BYTES, 64 KiB
+ *     trunk_plan and trunk_preview  194,359 bytes; leave TRUNK_PLAN_STACK_BYTES, 256 KiB
+ *     every other function   at most 49,975 bytes; leave TRUNK_STACK_BYTES, 64 KiB
  * The main thread (8 MiB as a rule) and threads of glibc and Rust with their usual size have enough.
  */
 #ifndef TRUNK_H
@@ -44,7 +50,7 @@ extern "C" {
 
 /* The version of the calls, formats and numbers that this header describes. It rises by one with each change that a
  * caller must follow. */
-#define TRUNK_VERSION 1
+#define TRUNK_VERSION 2
 
 /* The version of the library that is linked. A program may compare it with TRUNK_VERSION at its start. */
 uint32_t trunk_version(void);
@@ -63,6 +69,11 @@ enum {
     TRUNK_SHEET_RECORD_BYTES = 12,   /* of a move: three words, its kind, its number and the clock after it */
     TRUNK_PLAN_STACK_BYTES = 262144, /* trunk_plan and trunk_preview */
     TRUNK_STACK_BYTES = 65536,       /* every other function */
+};
+
+/* Days are counted from 0, which is Saturday 1 January 2000: clock / TRUNK_DAY_SECONDS. */
+enum {
+    TRUNK_DAY_SECONDS = 86400,
 };
 
 /* A trace's record: two words, the activity and its seconds, 1 to TRUNK_MOST_TRACE_SECONDS. Beside a trace go the words
@@ -129,7 +140,8 @@ enum trunk_number {
     TRUNK_TORN_TRACE = 21,
     TRUNK_ODD_RECORD = 22,
     TRUNK_PAST_LIMIT = 23,
-    TRUNK_UNKNOWN_ROAD = 24
+    TRUNK_UNKNOWN_ROAD = 24,
+    TRUNK_BAD_BANS = 25
 };
 
 /* A sentence for a reply's number: why the call refuses, and what the place is. */
@@ -160,6 +172,7 @@ static inline const char *trunk_refusal_text(uint64_t number) {
         /* 22 */ "a record's activity is not 0 to 2 or its seconds are not 1 to 1,000,000; the place is the record, from 1",
         /* 23 */ "driving takes a figure over its limit; the place is the record, from 1",
         /* 24 */ "the map has no such road; the place is the road asked for",
+        /* 25 */ "a number of the ban list is 0, above the road count or not above the one before; the place is its position, from 1",
     };
     return number < sizeof texts / sizeof *texts ? texts[number] : "no such refusal";
 }
@@ -168,37 +181,43 @@ static inline const char *trunk_refusal_text(uint64_t number) {
 void trunk_check_map(const uint8_t *map, size_t map_length,
                      uint64_t *reply, size_t reply_count);
 
-/* Order check: an order alone, as it is typed. Reads the order; `junctions` is J of the map that the order is meant for,
- * the word at offset 4 of that map, and is not judged itself. Refuses 9 to 11; success is 0, 0, 0. Planning, the preview, retiming and audit judge the order
- * likewise, after the map. */
+/* Order check: an order and its ban list alone, as they are typed. Reads both; `junctions` and `roads` are J and R of the
+ * map that they are meant for, the words at offsets 4 and 8 of that map, and are not judged themselves. Refuses 9 to 11,
+ * 25; success is 0, 0, 0. Planning, the preview, retiming and audit judge order and list likewise, after the map. */
 void trunk_check_order(const uint8_t *order, size_t order_length,
-                       uint32_t junctions,
+                       const uint32_t *bans, size_t ban_count,
+                       uint32_t junctions, uint32_t roads,
                        uint64_t *reply, size_t reply_count);
 
-/* Planning. Reads the map and the order; writes the plan to the sheet, and uses `words` as label space,
+/* Planning. Reads the map, the order and its ban list; writes the plan to the sheet, and uses `words` as label space,
  * TRUNK_LABEL_WORDS a label, at most TRUNK_MOST_LABELS of them. What the words hold before does not matter; afterwards
- * they hold nothing of use. Refuses 1 to 14; 1 to 11 leave the words as they were. Success is 0, the number of labels, the
- * arrival: the sheet then holds the plan in its first 24 + 12 * moves bytes, and the bytes after them stay. */
+ * they hold nothing of use. Refuses 1 to 11, 25, 12 to 14; 1 to 11 and 25 leave the words as they were. Success is 0, the
+ * number of labels, the arrival: the sheet then holds the plan in its first 24 + 12 * moves bytes, and the bytes after them
+ * stay. The clock after a drive has the queue in it: arrival less departure is the road times, the pauses and the queues. */
 void trunk_plan(const uint8_t *map, size_t map_length,
                 const uint8_t *order, size_t order_length,
+                const uint32_t *bans, size_t ban_count,
                 uint32_t *words, size_t word_count,
                 uint8_t *sheet, size_t sheet_length,
                 uint64_t *reply, size_t reply_count);
 
-/* Retiming. Reads a map, an order and a sheet, of which the figures do not count; writes the same moves with their true
- * figures to `out`. Give the sheet read its own length, 24 + 12 * moves, and no more. Refuses 1 to 11, 15, 16 and 17 move
- * by move, 19, 14. Success is 0, the number of moves, the arrival; bytes of `out` after 24 + 12 * moves stay. */
+/* Retiming. Reads a map, an order with its ban list and a sheet, of which the figures do not count; writes the same moves
+ * with their true figures to `out`, queues counted. Give the sheet read its own length, 24 + 12 * moves, and no more.
+ * Refuses 1 to 11, 25, 15, 16 and 17 move by move, 19, 14. Success is 0, the number of moves, the arrival; bytes of `out`
+ * after 24 + 12 * moves stay. */
 void trunk_retime(const uint8_t *map, size_t map_length,
                   const uint8_t *order, size_t order_length,
+                  const uint32_t *bans, size_t ban_count,
                   const uint8_t *sheet, size_t sheet_length,
                   uint8_t *out, size_t out_length,
                   uint64_t *reply, size_t reply_count);
 
-/* Audit: whether a sheet's moves are legal and its figures true; its label count is not judged. Writes nothing but the
- * reply. Refuses 1 to 11, 15, 16 to 18 move by move, 19, 18 for the header. Success is 0, the number of moves, the
- * arrival. */
+/* Audit: whether a sheet's moves are legal under the map, the order and its ban list, and its figures true; its label count
+ * is not judged. Writes nothing but the reply. Refuses 1 to 11, 25, 15, 16 to 18 move by move, 19, 18 for the header.
+ * Success is 0, the number of moves, the arrival. */
 void trunk_audit(const uint8_t *map, size_t map_length,
                  const uint8_t *order, size_t order_length,
+                 const uint32_t *bans, size_t ban_count,
                  const uint8_t *sheet, size_t sheet_length,
                  uint64_t *reply, size_t reply_count);
 
@@ -250,11 +269,12 @@ void trunk_strike(uint8_t *map, size_t map_length,
 
 /* Preview of a closure: the plan that there would be without this road. Answers and writes exactly what trunk_plan would
  * with a copy of the map in which trunk_strike has struck the road, and only reads the map: it needs no copy, and the map
- * keeps all its bytes. Words and sheet are lent as for trunk_plan. Refuses 1 to 11, which judge the map as it is, 24, then
- * 12 to 14 of the trip without the road; 1 to 11 and 24 leave the words as they were. Success is that of trunk_plan: 0, the
- * number of labels, the arrival. */
+ * keeps all its bytes. Ban list, words and sheet are lent as for trunk_plan; a struck road keeps its ban. Refuses 1 to 11,
+ * which judge the map as it is, 24, 25, then 12 to 14 of the trip without the road; 1 to 11, 24 and 25 leave the words as
+ * they were. Success is that of trunk_plan: 0, the number of labels, the arrival. */
 void trunk_preview(const uint8_t *map, size_t map_length,
                    const uint8_t *order, size_t order_length,
+                   const uint32_t *bans, size_t ban_count,
                    uint32_t road,
                    uint32_t *words, size_t word_count,
                    uint8_t *sheet, size_t sheet_length,

@@ -1,5 +1,5 @@
 //! Audits a kept sheet against a kept map and order, or times its moves afresh under them:
-//! `kept_sheet audit MAP ORDER SHEET` or `kept_sheet retime MAP ORDER SHEET NEW_SHEET`.
+//! `kept_sheet audit MAP ORDER SHEET` or `kept_sheet retime MAP ORDER SHEET NEW_SHEET`. No road is banned.
 mod ending;
 mod files;
 
@@ -19,7 +19,7 @@ fn main() -> ExitCode {
 
 fn audit(map: &str, order: &str, sheet: &str) -> Result<(), Box<dyn Error>> {
     let (map, order) = (read(map)?, read(order)?);
-    let timed = trunk::audit(&map, &order, &read(sheet)?)?;
+    let timed = trunk::audit(&map, &order, &[], &read(sheet)?)?;
     println!("audited {} {}", timed.moves, timed.arrival);
     Ok(())
 }
@@ -28,7 +28,7 @@ fn audit(map: &str, order: &str, sheet: &str) -> Result<(), Box<dyn Error>> {
 fn retime(map: &str, order: &str, sheet: &str, new: &str) -> Result<(), Box<dyn Error>> {
     let (map, order, kept) = (read(map)?, read(order)?, read(sheet)?);
     let mut out = vec![0; kept.len()];
-    let timed = trunk::retime(&map, &order, &kept, &mut out)?;
+    let timed = trunk::retime(&map, &order, &[], &kept, &mut out)?;
     files::named(new, fs::write(new, &out))?;
     println!("retimed {} {}", timed.moves, timed.arrival);
     Ok(())

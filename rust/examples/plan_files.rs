@@ -1,4 +1,4 @@
-//! Plans the trip of a map and an order and keeps the sheet: `plan_files MAP ORDER SHEET`.
+//! Plans the trip of a map and an order, with no road banned, and keeps the sheet: `plan_files MAP ORDER SHEET`.
 mod ending;
 mod files;
 
@@ -32,7 +32,7 @@ fn plan(map: &[u8], order: &[u8]) -> Result<(Planned, Vec<u8>), Refused> {
     let mut words = vec![0; LABEL_WORDS * MOST_LABELS];
     let mut sheet = Vec::new();
     loop {
-        match trunk::plan(map, order, &mut words, &mut sheet) {
+        match trunk::plan(map, order, &[], &mut words, &mut sheet) {
             Ok(planned) => return Ok((planned, sheet)),
             Err(refused) if refused.refusal == Refusal::ShortSheet => {
                 sheet.resize(refused.place as usize, 0);

@@ -17,7 +17,7 @@ fn plan() -> Result<(), Refused> {
     let order = Order::european(1, 3, 0, 100_000);
     let mut words = vec![0; LABEL_WORDS * 100]; // room for 100 labels
     let mut sheet = vec![0; 1000];
-    let planned = trunk::plan(&map, &order.to_bytes(), &mut words, &mut sheet)?;
+    let planned = trunk::plan(&map, &order.to_bytes(), &[], &mut words, &mut sheet)?;
     println!("reply 0 {} {}", planned.labels, planned.arrival);
     listing::print_moves(&map, &sheet)
 }

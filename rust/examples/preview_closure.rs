@@ -21,11 +21,11 @@ fn preview_closures() -> Result<(), Refused> {
     let mut words = vec![0; LABEL_WORDS * 100]; // room for 100 labels
     let mut sheet = vec![0; 1000];
 
-    let open = trunk::plan(&map, &order, &mut words, &mut sheet)?;
+    let open = trunk::plan(&map, &order, &[], &mut words, &mut sheet)?;
     println!("all open: arrives {}", open.arrival);
     print_moves(&map, &sheet)?;
     for road in 1..=ROADS {
-        match trunk::preview(&map, &order, road, &mut words, &mut sheet) {
+        match trunk::preview(&map, &order, &[], road, &mut words, &mut sheet) {
             Ok(closed) => {
                 let later = closed.arrival - open.arrival;
                 println!(
@@ -41,7 +41,7 @@ fn preview_closures() -> Result<(), Refused> {
     }
 
     trunk::strike(&mut map, CLOSED)?;
-    let struck = trunk::plan(&map, &order, &mut words, &mut sheet)?;
+    let struck = trunk::plan(&map, &order, &[], &mut words, &mut sheet)?;
     println!("road {CLOSED} struck: arrives {}", struck.arrival);
     print_moves(&map, &sheet)
 }

@@ -61,7 +61,7 @@ fn plan(figures: Figures) -> Result<(), Refused> {
     let order = trip.with_figures(figures).to_bytes();
     let mut words = vec![0; LABEL_WORDS * 100]; // room for 100 labels
     let mut sheet = vec![0; 1000];
-    let planned = trunk::plan(&map, &order, &mut words, &mut sheet)?;
+    let planned = trunk::plan(&map, &order, &[], &mut words, &mut sheet)?;
     println!("reply 0 {} {}", planned.labels, planned.arrival);
     listing::print_moves(&map, &sheet)
 }

@@ -20,7 +20,7 @@ fn plan() -> Result<(), Box<dyn Error>> {
     let order = Order::european(1, 2, 0, 100);
     let mut words = [0; LABEL_WORDS * 2]; // room for two labels
     let mut sheet = [0; 100];
-    let planned = trunk::plan(&map, &order.to_bytes(), &mut words, &mut sheet)?;
+    let planned = trunk::plan(&map, &order.to_bytes(), &[], &mut words, &mut sheet)?;
     println!("reply 0 {} {}", planned.labels, planned.arrival);
     listing::print_moves(&map, &sheet)?;
     Ok(())

@@ -23,7 +23,7 @@
 //! let order = Order::european(1, 2, 0, 100).to_bytes();
 //! let mut labels = [0; 2 * LABEL_WORDS];
 //! let mut lent = [0; 100];
-//! let planned = trunk::plan(&map, &order, &mut labels, &mut lent)?;
+//! let planned = trunk::plan(&map, &order, &[], &mut labels, &mut lent)?;
 //! assert_eq!((planned.labels, planned.arrival), (2, 45));
 //! let (kind, number, clock) = (MoveKind::Drive, 1, 45);
 //! assert_eq!(Sheet::from_bytes(&lent)?.moves, [Move { kind, number, clock }]);
@@ -33,6 +33,11 @@
 //!
 //! A road takes 18 × metres / (5 × km per hour) seconds, to the nearest second, an exact half to the even one, and never
 //! below 1.
+//!
+//! Beside an order goes its ban list: the numbers of the banned roads, rising; `&[]` bans none. A banned road may not be
+//! entered from 00:00:00 on and before 22:00:00 on Sundays, Good Friday, Easter Monday, Ascension and Whit Monday: a lorry
+//! that comes then queues until 22:00 of that day. Only the moment of entry counts. The queue is neither driving nor a
+//! pause: the clock alone sees it, and no car park is needed. Clock 0 is then 00:00 on 1 January 2000, a Saturday.
 //!
 //! [`plan`] and [`preview`] need [`PLAN_STACK_BYTES`] of stack and every other call [`STACK_BYTES`], whatever the map.
 //! Threads of the standard library have 2 MiB unless they are given less.
@@ -55,7 +60,7 @@ pub use trace::{Activity, TraceRecord, trace_bytes};
 
 /// The version of the calls, formats and numbers that this package describes, as in `include/trunk.h`. It rises by one with
 /// each change that a caller must follow. [`version`] is that of the library.
-pub const VERSION: u32 = 1;
+pub const VERSION: u32 = 2;
 /// The most junctions of a map.
 pub const MOST_JUNCTIONS: usize = 12_288;
 /// The most roads of a map.
@@ -79,6 +84,8 @@ pub const SHEET_RECORD_BYTES: usize = 12;
 pub const PLAN_STACK_BYTES: usize = 256 * 1024;
 /// The stack to leave for every other call.
 pub const STACK_BYTES: usize = 64 * 1024;
+/// The seconds of a day. Days are counted from 0, which is Saturday 1 January 2000: clock / `DAY_SECONDS`.
+pub const DAY_SECONDS: u32 = 86_400;
 /// A sheet's kind of move: a drive, by the road of the record's number. The other kinds are pauses, at the junction of
 /// the record's number.
 pub const DRIVE: u32 = 1;
@@ -205,46 +212,67 @@ pub fn check_map(map: &[u8]) -> Result<(), Refused> {
     Ok(())
 }
 
-/// Order check: an order alone, as it is typed. Refusals 9 to 11.
+/// Order check: an order and its ban list alone, as they are typed. Refusals 9 to 11, 25.
 ///
-/// `junctions` is how many the map has that the order is meant for, the word at offset 4 of that map.
+/// `junctions` and `roads` are how many the map has that both are meant for, the words at offsets 4 and 8 of that map.
 ///
 /// ```
 /// use trunk::{Order, Refusal, Refused};
 ///
 /// let order = Order::european(1, 3, 0, 100_000).to_bytes();
-/// assert_eq!(trunk::check_order(&order, 3), Ok(()));
+/// assert_eq!(trunk::check_order(&order, &[], 3, 3), Ok(()));
 /// let (refusal, place) = (Refusal::BadTrip, 1); // word 1: there is no junction 3
-/// assert_eq!(trunk::check_order(&order, 2), Err(Refused { refusal, place }));
+/// assert_eq!(trunk::check_order(&order, &[], 2, 3), Err(Refused { refusal, place }));
+///
+/// assert_eq!(trunk::check_order(&order, &[1, 3], 3, 3), Ok(()));
+/// let (refusal, place) = (Refusal::BadBans, 2); // the second number: there is no road 3
+/// assert_eq!(trunk::check_order(&order, &[1, 3], 3, 2), Err(Refused { refusal, place }));
 /// ```
-pub fn check_order(order: &[u8], junctions: u32) -> Result<(), Refused> {
+pub fn check_order(order: &[u8], bans: &[u32], junctions: u32, roads: u32) -> Result<(), Refused> {
     replied(|reply, count| unsafe {
-        raw::trunk_check_order(order.as_ptr(), order.len(), junctions, reply, count)
+        raw::trunk_check_order(
+            order.as_ptr(),
+            order.len(),
+            bans.as_ptr(),
+            bans.len(),
+            junctions,
+            roads,
+            reply,
+            count,
+        )
     })?;
     Ok(())
 }
 
-/// Planning: writes the first-arriving legal plan to the sheet. Refusals 1 to 14.
+/// Planning: writes the first-arriving legal plan to the sheet. Refusals 1 to 11, 25, 12 to 14.
 ///
-/// `words` is label space, [`LABEL_WORDS`] a label, of which at most [`MOST_LABELS`] are used; what it holds does not matter
-/// before and is of no use afterwards. A plan of M moves takes 24 + 12M bytes of the sheet; the bytes after them stay.
+/// `bans` are the banned roads, rising. The clock after a drive has the queue in it. `words` is label space,
+/// [`LABEL_WORDS`] a label, of which at most [`MOST_LABELS`] are used; what it holds does not matter before and is of no
+/// use afterwards. A plan of M moves takes 24 + 12M bytes of the sheet; the bytes after them stay.
 ///
 /// ```
 /// let map = std::fs::read("../crates/plan/data/map")?; // map T: Hub 1, Lay 2, a car park, End 3
 /// let order = trunk::Order::european(1, 3, 0, 100_000).to_bytes();
 /// let mut words = [0; 10 * trunk::LABEL_WORDS];
 /// let mut sheet = [0; 1000];
-/// let planned = trunk::plan(&map, &order, &mut words, &mut sheet)?;
+/// let planned = trunk::plan(&map, &order, &[], &mut words, &mut sheet)?;
 /// assert_eq!((planned.labels, planned.arrival), (4, 20_700));
 ///
-/// let full = trunk::plan(&map, &order, &mut words[..30], &mut sheet).unwrap_err();
+/// let full = trunk::plan(&map, &order, &[], &mut words[..30], &mut sheet).unwrap_err();
 /// let line = "refusal 12, place 3: more labels are needed than fit; the place is how many fit";
 /// assert_eq!(full.to_string(), line);
+///
+/// // On Sunday 2 January 2000 the lorry is at Lay long before road 2 opens at 22:00, and drives two hours from then on.
+/// let sunday = trunk::DAY_SECONDS;
+/// let order = trunk::Order::european(1, 3, sunday, 2 * sunday).to_bytes();
+/// let queued = trunk::plan(&map, &order, &[2], &mut words, &mut sheet)?;
+/// assert_eq!(queued.arrival, u64::from(sunday) + (22 + 2) * 3_600);
 /// # Ok::<(), Box<dyn std::error::Error>>(())
 /// ```
 pub fn plan(
     map: &[u8],
     order: &[u8],
+    bans: &[u32],
     words: &mut [u32],
     sheet: &mut [u8],
 ) -> Result<Planned, Refused> {
@@ -254,6 +282,8 @@ pub fn plan(
             map.len(),
             order.as_ptr(),
             order.len(),
+            bans.as_ptr(),
+            bans.len(),
             words.as_mut_ptr(),
             words.len(),
             sheet.as_mut_ptr(),
@@ -265,8 +295,8 @@ pub fn plan(
     Ok(reply.planned())
 }
 
-/// Retiming: writes the moves of a sheet with their true figures to another sheet. Refusals 1 to 11, 15, 16 and 17 move
-/// by move, 19, 14.
+/// Retiming: writes the moves of a sheet with their true figures, queues counted, to another sheet. Refusals 1 to 11, 25,
+/// 15, 16 and 17 move by move, 19, 14.
 ///
 /// The sheet that is read is exactly 24 + 12M bytes for its M moves.
 ///
@@ -279,18 +309,30 @@ pub fn plan(
 /// let untimed = |(kind, number)| Move { kind, number, clock: 0 };
 /// let typed = Sheet { moves: moves.map(untimed).to_vec(), ..Sheet::default() }.to_bytes();
 /// let mut out = vec![0; typed.len()];
-/// let timed = trunk::retime(&map, &order, &typed, &mut out)?;
+/// let timed = trunk::retime(&map, &order, &[], &typed, &mut out)?;
 /// assert_eq!((timed.moves, timed.arrival), (3, 57_600));
 /// assert_eq!(Sheet::from_bytes(&out)?.moves[1].clock, 50_400);
+///
+/// // On Sunday 2 January 2000 the rest ends at 136,800, and road 2, which takes 7,200, opens at 165,600.
+/// let sunday = Order::european(1, 3, trunk::DAY_SECONDS, 200_000).to_bytes();
+/// assert_eq!(trunk::retime(&map, &sunday, &[2], &typed, &mut out)?.arrival, 172_800);
 /// # Ok::<(), Box<dyn std::error::Error>>(())
 /// ```
-pub fn retime(map: &[u8], order: &[u8], sheet: &[u8], out: &mut [u8]) -> Result<Timed, Refused> {
+pub fn retime(
+    map: &[u8],
+    order: &[u8],
+    bans: &[u32],
+    sheet: &[u8],
+    out: &mut [u8],
+) -> Result<Timed, Refused> {
     let reply = replied(|reply, count| unsafe {
         raw::trunk_retime(
             map.as_ptr(),
             map.len(),
             order.as_ptr(),
             order.len(),
+            bans.as_ptr(),
+            bans.len(),
             sheet.as_ptr(),
             sheet.len(),
             out.as_mut_ptr(),
@@ -305,8 +347,8 @@ pub fn retime(map: &[u8], order: &[u8], sheet: &[u8], out: &mut [u8]) -> Result<
     })
 }
 
-/// Audit: whether a sheet's moves are legal and its figures true. Refusals 1 to 11, 15, 16 to 18 move by move, 19, 18 for
-/// the header.
+/// Audit: whether a sheet's moves are legal and its figures true, queues counted. Refusals 1 to 11, 25, 15, 16 to 18 move by
+/// move, 19, 18 for the header.
 ///
 /// The sheet is exactly 24 + 12M bytes for its M moves. Its label count is not judged.
 ///
@@ -316,22 +358,25 @@ pub fn retime(map: &[u8], order: &[u8], sheet: &[u8], out: &mut [u8]) -> Result<
 /// let map = std::fs::read("../crates/plan/data/map")?; // map T: Hub 1, Lay 2, a car park, End 3
 /// let order = Order::european(1, 3, 0, 100_000).to_bytes();
 /// let mut sheet = [0; 60];
-/// trunk::plan(&map, &order, &mut [0; 10 * trunk::LABEL_WORDS], &mut sheet)?;
-/// let timed = trunk::audit(&map, &order, &sheet)?;
+/// trunk::plan(&map, &order, &[], &mut [0; 10 * trunk::LABEL_WORDS], &mut sheet)?;
+/// let timed = trunk::audit(&map, &order, &[], &sheet)?;
 /// assert_eq!((timed.moves, timed.arrival), (3, 20_700));
+/// assert_eq!(trunk::audit(&map, &order, &[2], &sheet)?, timed); // clock 0 is a Saturday's
 ///
 /// sheet[4] += 1; // the arrival in the header
 /// let (refusal, place) = (Refusal::FalseFigure, 4);
-/// assert_eq!(trunk::audit(&map, &order, &sheet), Err(Refused { refusal, place }));
+/// assert_eq!(trunk::audit(&map, &order, &[], &sheet), Err(Refused { refusal, place }));
 /// # Ok::<(), Box<dyn std::error::Error>>(())
 /// ```
-pub fn audit(map: &[u8], order: &[u8], sheet: &[u8]) -> Result<Timed, Refused> {
+pub fn audit(map: &[u8], order: &[u8], bans: &[u32], sheet: &[u8]) -> Result<Timed, Refused> {
     let reply = replied(|reply, count| unsafe {
         raw::trunk_audit(
             map.as_ptr(),
             map.len(),
             order.as_ptr(),
             order.len(),
+            bans.as_ptr(),
+            bans.len(),
             sheet.as_ptr(),
             sheet.len(),
             reply,
@@ -457,7 +502,8 @@ pub fn replay(trace: &[u8], rules: Rules, figures: &mut Figures) -> Result<Repla
 /// let mut map = std::fs::read("../crates/plan/data/map")?; // map T: road 2 leads from Lay 2 to End 3
 /// let order = trunk::Order::european(1, 3, 0, 100_000).to_bytes();
 /// trunk::strike(&mut map, 2)?;
-/// let none = trunk::plan(&map, &order, &mut [0; 10 * trunk::LABEL_WORDS], &mut []).unwrap_err();
+/// let mut words = [0; 10 * trunk::LABEL_WORDS];
+/// let none = trunk::plan(&map, &order, &[], &mut words, &mut []).unwrap_err();
 /// assert_eq!(none.refusal, trunk::Refusal::NoRoad);
 /// # Ok::<(), Box<dyn std::error::Error>>(())
 /// ```
@@ -469,25 +515,32 @@ pub fn strike(map: &mut [u8], road: u32) -> Result<(), Refused> {
 }
 
 /// Preview of a closure: answers and writes exactly what [`plan`] would with a copy of the map in which [`strike`] has
-/// struck the road. The map itself is only read. Refusals 1 to 11, which judge the map as it is, 24, then 12 to 14 of the
-/// trip without the road.
+/// struck the road. The map itself is only read. Refusals 1 to 11, which judge the map as it is, 24, 25, then 12 to 14 of
+/// the trip without the road.
 ///
-/// `words` and `sheet` are those of [`plan`]; refusals 1 to 11 and 24 leave the words.
+/// `bans`, `words` and `sheet` are those of [`plan`]; refusals 1 to 11, 24 and 25 leave the words. A struck road keeps its
+/// ban.
 ///
 /// ```
 /// let map = std::fs::read("../crates/plan/data/map")?; // map T: road 3 leads from Hub 1 to End 3
 /// let order = trunk::Order::european(1, 3, 0, 100_000).to_bytes();
 /// let (mut words, mut sheet) = ([0; 10 * trunk::LABEL_WORDS], [0; 1000]);
 /// // The plan does not use road 3, and there is none without road 2.
-/// let closed = trunk::preview(&map, &order, 3, &mut words, &mut sheet)?;
+/// let closed = trunk::preview(&map, &order, &[], 3, &mut words, &mut sheet)?;
 /// assert_eq!(closed.arrival, 20_700);
-/// let none = trunk::preview(&map, &order, 2, &mut words, &mut sheet).unwrap_err();
+/// let none = trunk::preview(&map, &order, &[], 2, &mut words, &mut sheet).unwrap_err();
 /// assert_eq!(none.refusal, trunk::Refusal::NoRoad);
+///
+/// // Road 2 banned, on Sunday 2 January 2000.
+/// let sunday = trunk::Order::european(1, 3, trunk::DAY_SECONDS, 200_000).to_bytes();
+/// let queued = trunk::preview(&map, &sunday, &[2], 3, &mut words, &mut sheet)?;
+/// assert_eq!(queued.arrival, 172_800);
 /// # Ok::<(), Box<dyn std::error::Error>>(())
 /// ```
 pub fn preview(
     map: &[u8],
     order: &[u8],
+    bans: &[u32],
     road: u32,
     words: &mut [u32],
     sheet: &mut [u8],
@@ -498,6 +551,8 @@ pub fn preview(
             map.len(),
             order.as_ptr(),
             order.len(),
+            bans.as_ptr(),
+            bans.len(),
             road,
             words.as_mut_ptr(),
             words.len(),

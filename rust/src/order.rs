@@ -120,13 +120,13 @@ pub struct Figures {
 /// use trunk::{Figures, Order, Rules};
 ///
 /// let order = Order::european(1, 3, 0, 100_000);
-/// assert_eq!(trunk::check_order(&order.to_bytes(), 3), Ok(()));
+/// assert_eq!(trunk::check_order(&order.to_bytes(), &[], 3, 3), Ok(()));
 /// assert_eq!(Order::from_bytes(&order.to_bytes()), Ok(order));
 ///
 /// let figures = Figures { spell: 4_500, shift: 15_300, week: 15_300, marked: true };
 /// let split = Order { rules: Rules::european(), ..order }.with_figures(figures);
 /// assert_eq!((split.spell, split.shift, split.week), (4_500, 15_300, 15_300));
-/// assert_eq!(trunk::check_order(&split.to_bytes(), 3), Ok(()));
+/// assert_eq!(trunk::check_order(&split.to_bytes(), &[], 3, 3), Ok(()));
 /// ```
 #[derive(Clone, Copy, Debug, PartialEq, Eq, Hash)]
 pub struct Order {

@@ -64,6 +64,7 @@ refusals! {
     OddRecord = 22, "a record's activity is not 0 to 2 or its seconds are not 1 to 1,000,000; the place is the record, from 1";
     PastLimit = 23, "driving takes a figure over its limit; the place is the record, from 1";
     UnknownRoad = 24, "the map has no such road; the place is the road asked for";
+    BadBans = 25, "a number of the ban list is 0, above the road count or not above the one before; the place is its position, from 1";
 }
 
 impl Refusal {

@@ -109,7 +109,7 @@ impl Move {
 /// let map = std::fs::read("../crates/plan/data/map")?; // map T
 /// let order = Order::european(1, 3, 0, 100_000).to_bytes();
 /// let (mut words, mut lent) = ([0; 10 * trunk::LABEL_WORDS], [0; 1000]);
-/// trunk::plan(&map, &order, &mut words, &mut lent)?;
+/// trunk::plan(&map, &order, &[], &mut words, &mut lent)?;
 ///
 /// let sheet = Sheet::from_bytes(&lent)?;
 /// assert_eq!((sheet.arrival, sheet.labels), (20_700, 4));

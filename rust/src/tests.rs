@@ -1,5 +1,6 @@
-//! Document 01's trial trips, a refusal of each call, the largest map, replayed traces, closures and weeks, through the
-//! library; beside it the header's figures and sentences, and the types for orders, sheets and traces.
+//! Document 01's trial trips, a refusal of each call, the largest map, replayed traces, closures, weeks and ban days,
+//! through the library; beside it the header's figures and sentences, and the types for orders, sheets and traces.
+mod bans;
 mod closures;
 mod formats;
 mod header;
@@ -49,6 +50,7 @@ fn planned_sheet() -> Vec<u8> {
     plan(
         &map_t(),
         &order_t(100_000),
+        &[],
         &mut [7; LABEL_WORDS * 4],
         &mut sheet,
     )
@@ -66,6 +68,7 @@ fn plans_map_t() {
     let planned = plan(
         &map_t(),
         &order_t(100_000),
+        &[],
         &mut [7; LABEL_WORDS * 4],
         &mut sheet,
     );
@@ -89,7 +92,7 @@ fn plans_map_t() {
 fn plans_map_t_with_europes_parts() {
     let order = order_with_parts(100_000, [900, 1_800]);
     let mut sheet = vec![0; 60];
-    let planned = plan(&map_t(), &order, &mut [7; LABEL_WORDS * 6], &mut sheet);
+    let planned = plan(&map_t(), &order, &[], &mut [7; LABEL_WORDS * 6], &mut sheet);
     assert_eq!(
         planned,
         Ok(Planned {
@@ -100,7 +103,13 @@ fn plans_map_t_with_europes_parts() {
     let mut expected = planned_sheet();
     expected[LABELS_ON_SHEET] = 6;
     assert_eq!(sheet, expected);
-    let full = plan(&map_t(), &order, &mut [7; LABEL_WORDS * 6 - 1], &mut sheet);
+    let full = plan(
+        &map_t(),
+        &order,
+        &[],
+        &mut [7; LABEL_WORDS * 6 - 1],
+        &mut sheet,
+    );
     assert_eq!(full, refused(Refusal::Full, 5));
 }
 
@@ -109,7 +118,7 @@ fn plans_map_t_with_europes_parts() {
 fn plans_a_split_break() {
     let order = order_with_parts(100_000, [900, 1_799]);
     let mut sheet = vec![0; 72];
-    let planned = plan(&map_t(), &order, &mut [7; LABEL_WORDS * 6], &mut sheet);
+    let planned = plan(&map_t(), &order, &[], &mut [7; LABEL_WORDS * 6], &mut sheet);
     assert_eq!(
         planned,
         Ok(Planned {
@@ -130,8 +139,8 @@ fn plans_a_split_break() {
         moves: 4,
         arrival: 20_699,
     });
-    assert_eq!(audit(&map_t(), &order, &sheet), timed);
-    let without_split = audit(&map_t(), &order_t(100_000), &sheet);
+    assert_eq!(audit(&map_t(), &order, &[], &sheet), timed);
+    let without_split = audit(&map_t(), &order_t(100_000), &[], &sheet);
     assert_eq!(without_split, refused(Refusal::ForeignMove, 2));
 }
 
@@ -140,6 +149,7 @@ fn latest_arrival_decides() {
     let planned = plan(
         &map_t(),
         &order_t(20_700),
+        &[],
         &mut [0; LABEL_WORDS * 4],
         &mut [0; 60],
     );
@@ -153,6 +163,7 @@ fn latest_arrival_decides() {
     let late = plan(
         &map_t(),
         &order_t(20_699),
+        &[],
         &mut [0; LABEL_WORDS * 4],
         &mut [0; 60],
     );
@@ -164,6 +175,7 @@ fn three_labels_are_full() {
     let full = plan(
         &map_t(),
         &order_t(100_000),
+        &[],
         &mut [0; LABEL_WORDS * 4 - 1],
         &mut [0; 60],
     );
@@ -173,7 +185,7 @@ fn three_labels_are_full() {
 #[test]
 fn no_label_space_and_no_sheet() {
     assert_eq!(
-        plan(&map_t(), &order_t(100_000), &mut [], &mut []),
+        plan(&map_t(), &order_t(100_000), &[], &mut [], &mut []),
         refused(Refusal::Full, 0)
     );
 }
@@ -184,6 +196,7 @@ fn a_short_sheet_stays() {
     let short = plan(
         &map_t(),
         &order_t(100_000),
+        &[],
         &mut [0; LABEL_WORDS * 4],
         &mut sheet,
     );
@@ -194,7 +207,13 @@ fn a_short_sheet_stays() {
 #[test]
 fn a_refusal_before_the_search_leaves_the_label_space() {
     let mut words = [7; LABEL_WORDS * 4];
-    let bad = plan(&map_t(), &order_t(100_000)[..59], &mut words, &mut [0; 60]);
+    let bad = plan(
+        &map_t(),
+        &order_t(100_000)[..59],
+        &[],
+        &mut words,
+        &mut [0; 60],
+    );
     assert_eq!(bad, refused(Refusal::BadOrder, 59));
     assert_eq!(words, [7; LABEL_WORDS * 4]);
 }
@@ -210,23 +229,29 @@ fn retimes_and_audits_a_plan() {
     false_sheet[4] += 1; // arrival
     false_sheet[24 + 12 + 8] += 1; // the clock after move 2
     let mut out = vec![0; 60];
-    assert_eq!(audit(&map_t(), &order_t(100_000), &true_sheet), timed);
+    assert_eq!(audit(&map_t(), &order_t(100_000), &[], &true_sheet), timed);
     assert_eq!(
-        audit(&map_t(), &order_t(100_000), &false_sheet),
+        audit(&map_t(), &order_t(100_000), &[], &false_sheet),
         refused(Refusal::FalseFigure, 2)
     );
     assert_eq!(
-        retime(&map_t(), &order_t(100_000), &false_sheet, &mut out),
+        retime(&map_t(), &order_t(100_000), &[], &false_sheet, &mut out),
         timed
     );
     assert_eq!(out, true_sheet);
     assert_eq!(
-        retime(&map_t(), &order_t(100_000), &false_sheet, &mut out[..59]),
+        retime(
+            &map_t(),
+            &order_t(100_000),
+            &[],
+            &false_sheet,
+            &mut out[..59]
+        ),
         refused(Refusal::ShortSheet, 60)
     );
     for length in [23, 59] {
         assert_eq!(
-            audit(&map_t(), &order_t(100_000), &true_sheet[..length]),
+            audit(&map_t(), &order_t(100_000), &[], &true_sheet[..length]),
             refused(Refusal::TornSheet, length as u64)
         );
     }
@@ -263,16 +288,25 @@ fn checks_and_chains_maps() {
 #[test]
 fn checks_orders_without_a_map() {
     let order = order_t(100_000);
-    assert_eq!(check_order(&order, 3), Ok(()));
-    assert_eq!(check_order(&order, u32::MAX), Ok(()));
-    assert_eq!(check_order(&[], 3), refused(Refusal::BadOrder, 0));
-    assert_eq!(check_order(&order[..48], 3), refused(Refusal::BadOrder, 48));
-    assert_eq!(check_order(&order[..59], 3), refused(Refusal::BadOrder, 59));
-    assert_eq!(check_order(&order, 2), refused(Refusal::BadTrip, 1));
-    assert_eq!(check_order(&order, 0), refused(Refusal::BadTrip, 0));
+    assert_eq!(check_order(&order, &[], 3, 3), Ok(()));
+    assert_eq!(check_order(&order, &[], u32::MAX, 3), Ok(()));
+    assert_eq!(check_order(&[], &[], 3, 3), refused(Refusal::BadOrder, 0));
+    assert_eq!(
+        check_order(&order[..48], &[], 3, 3),
+        refused(Refusal::BadOrder, 48)
+    );
+    assert_eq!(
+        check_order(&order[..59], &[], 3, 3),
+        refused(Refusal::BadOrder, 59)
+    );
+    assert_eq!(check_order(&order, &[], 2, 3), refused(Refusal::BadTrip, 1));
+    assert_eq!(check_order(&order, &[], 0, 3), refused(Refusal::BadTrip, 0));
     let mut no_rest = european_order([0, 3], 100_000, [0, 0]);
     no_rest[36..40].fill(0);
-    assert_eq!(check_order(&no_rest, 3), refused(Refusal::BadRules, 9));
+    assert_eq!(
+        check_order(&no_rest, &[], 3, 3),
+        refused(Refusal::BadRules, 9)
+    );
     for (parts, place) in [
         ([0, 1], 10),
         ([1, 0], 11),
@@ -280,11 +314,14 @@ fn checks_orders_without_a_map() {
         ([1, 2_701], 11),
     ] {
         let order = order_with_parts(100_000, parts);
-        assert_eq!(check_order(&order, 3), refused(Refusal::BadRules, place));
+        assert_eq!(
+            check_order(&order, &[], 3, 3),
+            refused(Refusal::BadRules, place)
+        );
     }
     let european = order_with_parts(100_000, [900, 1_800]);
     assert_eq!(
-        (european.len(), check_order(&european, 3)),
+        (european.len(), check_order(&european, &[], 3, 3)),
         (ORDER_BYTES, Ok(()))
     );
 }
@@ -334,7 +371,13 @@ fn the_largest_map_passes_and_plans() {
     assert_eq!(name(&map, 12_288), Ok("n"));
     let (order, mut sheet) = (ring_order(), vec![0; 24 + 12 * 12_287]);
     assert_eq!(
-        plan(&map, &order, &mut vec![7; LABEL_WORDS * 12_288], &mut sheet),
+        plan(
+            &map,
+            &order,
+            &[],
+            &mut vec![7; LABEL_WORDS * 12_288],
+            &mut sheet
+        ),
         Ok(Planned {
             labels: 12_288,
             arrival: 12_287
@@ -349,9 +392,9 @@ fn the_largest_map_passes_and_plans() {
         arrival: 12_287,
     });
     let mut out = vec![0; sheet.len()];
-    assert_eq!(retime(&map, &order, &sheet, &mut out), timed);
+    assert_eq!(retime(&map, &order, &[], &sheet, &mut out), timed);
     assert_eq!(out, sheet);
-    assert_eq!(audit(&map, &order, &sheet), timed);
+    assert_eq!(audit(&map, &order, &[], &sheet), timed);
 }
 
 /// The ring's last road is the only one that leads to the target in time; all other junctions are reached.
@@ -361,14 +404,17 @@ fn the_largest_map_is_previewed_and_struck() {
     let order = ring_order();
     let mut words = vec![7; LABEL_WORDS * 12_288];
     let none = refused(Refusal::NoRoad, 12_287);
-    assert_eq!(preview(&map, &order, 40_960, &mut words, &mut []), none);
+    assert_eq!(
+        preview(&map, &order, &[], 40_960, &mut words, &mut []),
+        none
+    );
     assert_eq!(
         strike(&mut map, 40_961),
         refused(Refusal::UnknownRoad, 40_961)
     );
     assert_eq!(strike(&mut map, 40_960), Ok(()));
     assert_eq!(check_map(&map), Ok(()));
-    assert_eq!(plan(&map, &order, &mut words, &mut []), none);
+    assert_eq!(plan(&map, &order, &[], &mut words, &mut []), none);
 }
 
 #[test]
@@ -377,7 +423,7 @@ fn one_junction_or_road_too_many_is_oversize() {
         let mut map = ring_map(junctions, roads);
         let (mut words, mut sheet) = ([7; LABEL_WORDS], [0xEE; 24]);
         assert_eq!(
-            plan(&map, &ring_order(), &mut words, &mut sheet),
+            plan(&map, &ring_order(), &[], &mut words, &mut sheet),
             refused(Refusal::Oversize, place)
         );
         assert_eq!((words, sheet), ([7; LABEL_WORDS], [0xEE; 24]));
@@ -399,6 +445,8 @@ fn a_short_reply_changes_nothing() {
             map.len(),
             order.as_ptr(),
             order.len(),
+            [].as_ptr(),
+            0,
             words.as_mut_ptr(),
             words.len(),
             sheet.as_mut_ptr(),
@@ -418,7 +466,10 @@ fn a_short_reply_changes_nothing() {
 fn an_order_is_judged_into_the_reply_alone() {
     let (order, mut reply) = (order_t(100_000), [9; 4]);
     let mut judge = |room: usize| {
-        unsafe { raw::trunk_check_order(order.as_ptr(), order.len(), 2, reply.as_mut_ptr(), room) };
+        let (bans, reply_at) = ([].as_ptr(), reply.as_mut_ptr());
+        unsafe {
+            raw::trunk_check_order(order.as_ptr(), order.len(), bans, 0, 2, 3, reply_at, room)
+        };
         reply
     };
     assert_eq!(judge(2), [9; 4]);

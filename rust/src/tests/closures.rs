@@ -57,10 +57,10 @@ fn a_refused_strike_changes_nothing() {
 fn previews_a_detour() {
     let (map, order) = (map_with_a_detour(), order());
     let (mut words, mut sheet) = ([7; LABEL_WORDS * 6], vec![0xEE; 76]);
-    let open = plan(&map, &order, &mut words, &mut sheet);
+    let open = plan(&map, &order, &[], &mut words, &mut sheet);
     assert_eq!(open, planned(6, 20_700));
     sheet.fill(0xEE);
-    let closed = preview(&map, &order, 2, &mut words, &mut sheet);
+    let closed = preview(&map, &order, &[], 2, &mut words, &mut sheet);
     assert_eq!(closed, planned(6, 23_400));
     let records = [
         [DRIVE, 1, 10_800],
@@ -84,11 +84,11 @@ fn previews_closures_of_the_other_roads() {
         (1, refused(Refusal::NoRoad, 1)),
         (2, refused(Refusal::ShortSheet, 72)),
     ] {
-        let closed = preview(&map, &order, road, &mut words, &mut sheet);
+        let closed = preview(&map, &order, &[], road, &mut words, &mut sheet);
         assert_eq!((closed, sheet), (expected, [0xEE; 60]));
     }
     for (road, labels) in [(3, 4), (4, 6)] {
-        let closed = preview(&map, &order, road, &mut words, &mut sheet);
+        let closed = preview(&map, &order, &[], road, &mut words, &mut sheet);
         assert_eq!(closed, planned(labels, 20_700));
     }
 }
@@ -103,9 +103,9 @@ fn a_preview_is_planning_on_a_struck_copy() {
         for labels in 0..=7 {
             for bytes in [0, 59, 60, 71, 72, 84] {
                 let (mut words, mut sheet) = (vec![7; LABEL_WORDS * labels], vec![0xEE; bytes]);
-                let answer = plan(&copy, &order, &mut words, &mut sheet);
+                let answer = plan(&copy, &order, &[], &mut words, &mut sheet);
                 let (mut words, mut other) = (vec![9; LABEL_WORDS * labels], vec![0xEE; bytes]);
-                let closed = preview(&map, &order, road, &mut words, &mut other);
+                let closed = preview(&map, &order, &[], road, &mut words, &mut other);
                 assert_eq!((closed, other), (answer, sheet));
             }
         }
@@ -119,22 +119,25 @@ fn a_sheet_is_audited_on_the_struck_map() {
     let (map, order) = (map_with_a_detour(), order());
     let mut words = [7; LABEL_WORDS * 6];
     let (mut open, mut closed) = ([0; 60], [0; 72]);
-    plan(&map, &order, &mut words, &mut open).unwrap();
-    preview(&map, &order, 2, &mut words, &mut closed).unwrap();
+    plan(&map, &order, &[], &mut words, &mut open).unwrap();
+    preview(&map, &order, &[], 2, &mut words, &mut closed).unwrap();
     let [without_1, without_2] = [1, 2].map(|road| {
         let mut copy = map.clone();
         strike(&mut copy, road).unwrap();
         copy
     });
     let foreign = refused(Refusal::ForeignMove, 2);
-    assert_eq!(audit(&without_1, &order, &open), foreign);
-    assert_eq!(audit(&without_2, &order, &open), refused(Refusal::Stray, 2));
+    assert_eq!(audit(&without_1, &order, &[], &open), foreign);
+    assert_eq!(
+        audit(&without_2, &order, &[], &open),
+        refused(Refusal::Stray, 2)
+    );
     let timed = Ok(Timed {
         moves: 4,
         arrival: 23_400,
     });
-    assert_eq!(audit(&without_2, &order, &closed), timed);
-    assert_eq!(audit(&map, &order, &closed), timed);
+    assert_eq!(audit(&without_2, &order, &[], &closed), timed);
+    assert_eq!(audit(&map, &order, &[], &closed), timed);
 }
 
 /// 24 comes after the order's refusals and before those of the search, and leaves words and sheet.
@@ -144,15 +147,15 @@ fn an_unknown_road_is_refused_before_the_search() {
     let (mut words, mut sheet) = ([7; LABEL_WORDS], [0xEE; 24]);
     for road in [0, ROADS + 1, u32::MAX] {
         let unknown = refused(Refusal::UnknownRoad, road.into());
-        let closed = preview(&map, &order, road, &mut words, &mut sheet);
+        let closed = preview(&map, &order, &[], road, &mut words, &mut sheet);
         assert_eq!(closed, unknown);
-        assert_eq!(preview(&map, &order, road, &mut [], &mut []), unknown);
+        assert_eq!(preview(&map, &order, &[], road, &mut [], &mut []), unknown);
     }
-    let short = preview(&map, &order[..59], 0, &mut words, &mut sheet);
+    let short = preview(&map, &order[..59], &[], 0, &mut words, &mut sheet);
     assert_eq!(short, refused(Refusal::BadOrder, 59));
     let mut bad_map = map.clone();
     bad_map[TO_OF_ROAD_2] = 5;
-    let bad = preview(&bad_map, &order, 2, &mut words, &mut sheet);
+    let bad = preview(&bad_map, &order, &[], 2, &mut words, &mut sheet);
     assert_eq!(bad, refused(Refusal::BadRoad, 2));
     assert_eq!((words, sheet), ([7; LABEL_WORDS], [0xEE; 24]));
 }
@@ -180,6 +183,8 @@ fn a_preview_needs_room_for_its_reply() {
                 map.len(),
                 order.as_ptr(),
                 order.len(),
+                [].as_ptr(),
+                0,
                 2,
                 words.as_mut_ptr(),
                 words.len(),

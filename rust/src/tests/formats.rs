@@ -61,7 +61,7 @@ fn an_order_of_another_length_is_refused() {
         let bad = refused(Refusal::BadOrder, length as u64);
         assert_eq!(Order::from_bytes(&bytes), bad);
         assert_eq!(
-            check_order(&bytes, 3),
+            check_order(&bytes, &[], 3, 3),
             refused(Refusal::BadOrder, length as u64)
         );
     }

@@ -29,6 +29,7 @@ fn the_header_has_the_same_figures() {
         ("WEEKLY_REST", WEEKLY_REST as usize),
         ("PLAN_STACK_BYTES", PLAN_STACK_BYTES),
         ("STACK_BYTES", STACK_BYTES),
+        ("DAY_SECONDS", DAY_SECONDS as usize),
         ("TRACE_RECORD_BYTES", TRACE_RECORD_BYTES),
         ("MOST_TRACE_SECONDS", MOST_TRACE_SECONDS as usize),
         ("OTHER_WORK", OTHER_WORK as usize),

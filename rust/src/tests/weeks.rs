@@ -21,7 +21,7 @@ fn planned(labels: u64, arrival: u64) -> Result<Planned, Refused> {
 
 #[test]
 fn judges_the_words_of_the_week() {
-    let judged = |changes: &[(usize, u32)]| check_order(&order_with(100_000, changes), 3);
+    let judged = |changes: &[(usize, u32)]| check_order(&order_with(100_000, changes), &[], 3, 3);
     let accepted: [&[(usize, u32)]; 5] = [
         &[(WEEK_LIMIT, 32_400)],
         &[(WEEK_LIMIT, 1_000_000)],
@@ -63,7 +63,7 @@ fn the_week_decides_between_break_and_weekly_rest() {
     let (mut words, mut sheet) = ([7; LABEL_WORDS * 6], vec![0; 60]);
     let mut answer = |week: u32, latest: u32| {
         let order = order_with(latest, &[(WEEK, week)]);
-        let answer = plan(&map_t(), &order, &mut words, &mut sheet);
+        let answer = plan(&map_t(), &order, &[], &mut words, &mut sheet);
         (answer, sheet.clone())
     };
     let fits = bytes_of(&[
@@ -103,29 +103,32 @@ fn the_week_decides_between_break_and_weekly_rest() {
 fn a_kept_sheet_is_held_against_the_week() {
     let order = order_with(200_000, &[(WEEK, 183_601)]);
     let mut sheet = vec![0; 60];
-    plan(&map_t(), &order, &mut [7; LABEL_WORDS * 6], &mut sheet).unwrap();
+    plan(&map_t(), &order, &[], &mut [7; LABEL_WORDS * 6], &mut sheet).unwrap();
     let timed = Ok(Timed {
         moves: 3,
         arrival: 180_000,
     });
-    assert_eq!(audit(&map_t(), &order, &sheet), timed);
+    assert_eq!(audit(&map_t(), &order, &[], &sheet), timed);
 
     let mut false_week = sheet.clone();
     false_week[WEEK_ON_SHEET] += 1;
     let header = refused(Refusal::FalseFigure, 4);
-    assert_eq!(audit(&map_t(), &order, &false_week), header);
+    assert_eq!(audit(&map_t(), &order, &[], &false_week), header);
     let mut out = vec![0; 60];
-    assert_eq!(retime(&map_t(), &order, &false_week, &mut out), timed);
+    assert_eq!(retime(&map_t(), &order, &[], &false_week, &mut out), timed);
     assert_eq!(out, sheet);
 
     let mut rested = sheet.clone();
     rested[SHEET_HEADER_BYTES + SHEET_RECORD_BYTES] = REST as u8;
     let overrun = refused(Refusal::Overrun, 3);
-    assert_eq!(retime(&map_t(), &order, &rested, &mut out), overrun);
+    assert_eq!(retime(&map_t(), &order, &[], &rested, &mut out), overrun);
     let mut unknown_kind = sheet;
     unknown_kind[SHEET_HEADER_BYTES + SHEET_RECORD_BYTES] = 7;
     let foreign = refused(Refusal::ForeignMove, 2);
-    assert_eq!(retime(&map_t(), &order, &unknown_kind, &mut out), foreign);
+    assert_eq!(
+        retime(&map_t(), &order, &[], &unknown_kind, &mut out),
+        foreign
+    );
 }
 
 #[test]
