@@ -24,7 +24,7 @@ static void make_map(void) {
     memcpy(map + 4 * MAP_WORDS, "HubLayEnd", NAME_BYTES);
 }
 
-static void print_reply(const uint64_t *reply) {
+static inline void print_reply(const uint64_t *reply) {
     printf("reply %" PRIu64 " %" PRIu64 " %" PRIu64 "\n", reply[0], reply[1], reply[2]);
 }
 

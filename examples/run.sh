@@ -8,7 +8,7 @@ set -euo pipefail
 cd "$(dirname "$0")/.."
 if [ "${1:-}" != --built ]; then tools/build.sh library >&2; fi
 
-in_both="plan_map_t replay_day preview_closure two_junctions"
+in_both="plan_map_t replay_day preview_closure sunday_trip two_junctions"
 made=target/examples rust=target/rust/debug/examples order=crates/plan/data/order
 # The library just built, whatever folder the environment names.
 export TRUNK_LIB_DIR="$PWD/target/staticlib" CARGO_TARGET_DIR="$PWD/target/rust"
