@@ -1,7 +1,7 @@
 /* Measures the stack that each call of the library takes, and fails where it is more than include/trunk.h says: the
  * bytes below its caller that a call changes. Frames are fixed and nothing recurses, so that a small map and the largest
- * one, planned, previewed, retimed, struck and refused, and a trace replayed and refused tell all. After
- * `tools/build.sh library`:
+ * one, with no road banned and with all, planned, previewed, retimed, struck and refused, and a trace replayed and refused
+ * tell all. After `tools/build.sh library`:
  *     cc -O2 -pthread -Iinclude tests/stack_use.c target/staticlib/libtrunk.a -o target/stack_use && target/stack_use */
 #define _XOPEN_SOURCE 600 /* pthread_attr_setstack */
 #include <pthread.h>
@@ -15,7 +15,8 @@ enum { SHEET_BYTES = TRUNK_SHEET_HEADER_BYTES + TRUNK_SHEET_RECORD_BYTES * LABEL
 enum { CLOSED_ROAD = 1 }; /* from junction 1 to 2, where the trips start: none drives it */
 
 static uint8_t map[TRUNK_MOST_MAP_BYTES], order[TRUNK_ORDER_BYTES], sheet[SHEET_BYTES], out[SHEET_BYTES];
-static size_t map_length, sheet_length;
+static size_t map_length, sheet_length, ban_count;
+static uint32_t bans[TRUNK_MOST_ROADS]; /* every road, in its order */
 static uint32_t words[TRUNK_LABEL_WORDS * LABELS];
 static uint64_t reply[3], part[2];
 static int plans, previews, strikes; /* that succeed, so that calls which only refuse do not pass for a measurement */
@@ -37,19 +38,24 @@ static uint32_t figures[TRUNK_FIGURE_WORDS];
 
 static void version(void) { reply[0] = trunk_version(); }
 static void check_map(void) { trunk_check_map(map, map_length, reply, 3); }
-static void check_order(void) { trunk_check_order(order, sizeof order, 3, reply, 3); }
+static void check_order(void) {
+    trunk_check_order(order, sizeof order, bans, ban_count, 3, TRUNK_MOST_ROADS, reply, 3);
+}
 static void plan(void) {
-    trunk_plan(map, map_length, order, sizeof order, words, TRUNK_LABEL_WORDS * LABELS, sheet, SHEET_BYTES, reply, 3);
+    trunk_plan(map, map_length, order, sizeof order, bans, ban_count, words, TRUNK_LABEL_WORDS * LABELS, sheet, SHEET_BYTES,
+               reply, 3);
 }
 static void preview(void) {
-    trunk_preview(map, map_length, order, sizeof order, CLOSED_ROAD, words, TRUNK_LABEL_WORDS * LABELS, out, SHEET_BYTES,
-                  reply, 3);
+    trunk_preview(map, map_length, order, sizeof order, bans, ban_count, CLOSED_ROAD, words, TRUNK_LABEL_WORDS * LABELS, out,
+                  SHEET_BYTES, reply, 3);
 }
 static void strike(void) { trunk_strike(map, map_length, CLOSED_ROAD, reply, 3); }
 static void retime(void) {
-    trunk_retime(map, map_length, order, sizeof order, sheet, sheet_length, out, SHEET_BYTES, reply, 3);
+    trunk_retime(map, map_length, order, sizeof order, bans, ban_count, sheet, sheet_length, out, SHEET_BYTES, reply, 3);
 }
-static void audit(void) { trunk_audit(map, map_length, order, sizeof order, sheet, sheet_length, reply, 3); }
+static void audit(void) {
+    trunk_audit(map, map_length, order, sizeof order, bans, ban_count, sheet, sheet_length, reply, 3);
+}
 static void name(void) { trunk_name(map, map_length, 1, reply, 3, part, 2); }
 static void make_chains(void) { trunk_make_chains(map, map_length, reply, 3); }
 static void replay(void) {
@@ -140,24 +146,33 @@ static void measure(void) {
     }
 }
 
-/* From junction 2, for a driver who comes from a weekly rest. */
+/* From junction 2 on Sunday 2 January 2000 at 00:00, for a driver who comes from a weekly rest. */
 static void make_order(uint32_t target) {
-    uint8_t *at = put_words(order, (uint32_t[]){2, target, 0, 100000, 0, 0}, 6);
+    uint8_t *at = put_words(order, (uint32_t[]){2, target, TRUNK_DAY_SECONDS, TRUNK_DAY_SECONDS + 100000, 0, 0}, 6);
     at = put_words(at, rules, TRUNK_RULE_WORDS);
     put_words(at, (uint32_t[]){0}, 1);
+}
+
+/* With no road banned, then with all. */
+static void measure_on(uint32_t junctions, uint32_t roads, uint32_t name_bytes) {
+    for (ban_count = 0; ban_count <= roads; ban_count += roads) {
+        make_map(junctions, roads, name_bytes);
+        measure();
+    }
 }
 
 int main(void) {
     stack = aligned_alloc(4096, STACK_BYTES);
     put_words(trace, day, 2 * DAY_RECORDS);
+    for (uint32_t road = 1; road <= TRUNK_MOST_ROADS; road++) {
+        bans[road - 1] = road;
+    }
     for (uint32_t target = 0; target <= 3; target++) {
         make_order(target);
-        make_map(3, 3, 9);
-        measure();
-        make_map(TRUNK_MOST_JUNCTIONS, TRUNK_MOST_ROADS, TRUNK_MOST_NAME_BYTES);
-        measure();
+        measure_on(3, 3, 9);
+        measure_on(TRUNK_MOST_JUNCTIONS, TRUNK_MOST_ROADS, TRUNK_MOST_NAME_BYTES);
     }
-    int failed = plans != 6 || previews != 6 || strikes != 8;
+    int failed = plans != 12 || previews != 12 || strikes != 16;
     failed |= figures[0] != SPELL_LIMIT || figures[1] != SHIFT_LIMIT || figures[2] != SHIFT_LIMIT || figures[3] != 0;
     for (int c = 0; c < CALLS; c++) {
         printf("%-17s %7zu bytes of stack\n", calls[c].name, calls[c].bytes);
