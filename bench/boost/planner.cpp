@@ -1,11 +1,12 @@
 // A planner over Boost.Graph's r_c_shortest_paths (label setting under resource constraints): clock, spell, shift, week
 // and mark are its resources, roads and pauses its edges. It trusts its files: bench/src/bin/boost.rs writes accepted ones.
 //
-//   planner first|all RUNS SECONDS FOLDER...
+//   planner first|all RUNS SECONDS BAN_DAYS FOLDER...
 //
-// For each folder, whose files are `map` and `order`, it prints a line: `planned ARRIVAL SPELL SHIFT WEEK LABELS
-// NANOSECONDS`, `none LABELS NANOSECONDS` or `late`. `all` is the search as it is: it ends when no label is left.
-// `first` stops it at the first label at target. The time is the best of RUNS, or of those that end within SECONDS.
+// The file of ban days has their numbers, and each folder the files `map`, `order` and `bans`. For each folder it prints a
+// line: `planned ARRIVAL SPELL SHIFT WEEK LABELS NANOSECONDS`, `none LABELS NANOSECONDS` or `late`. `all` is the search as
+// it is: it ends when no label is left. `first` stops it at the first label at target. The time is the best of RUNS, or of
+// those that end within SECONDS.
 
 #include <boost/graph/adjacency_list.hpp>
 #include <boost/graph/r_c_shortest_paths.hpp>
@@ -35,6 +36,26 @@ struct Move {
     std::size_t index;
     Kind kind;
     Word seconds;
+    bool is_banned;
+};
+
+// When banned roads open. Days are those of the latest clock and before.
+class Gates {
+    static constexpr Word DAY = 86400, OPENING = 22 * 3600, DAYS = 2000000000 / DAY + 1;
+    std::vector<bool> is_ban_day = std::vector<bool>(DAYS);
+
+public:
+    explicit Gates(const std::vector<Word>& ban_days) {
+        for (const Word day : ban_days) {
+            is_ban_day.at(day) = true;
+        }
+    }
+
+    // When a lorry that comes to a banned road at this clock may enter it.
+    Word entry(Word clock) const {
+        const Word day = clock / DAY;
+        return clock % DAY < OPENING && is_ban_day[day] ? DAY * day + OPENING : clock;
+    }
 };
 
 using Graph = boost::adjacency_list<boost::vecS, boost::vecS, boost::directedS, boost::no_property, Move>;
@@ -62,12 +83,13 @@ bool operator<(const State& one, const State& other) { return one.fields() < oth
 // The state after a move. Answers whether the rules offer it and it is legal.
 struct Extension {
     Order order;
+    const Gates* gates;
 
     bool operator()(const Graph& graph, State& after, const State& before, Edge edge) const {
         const Move& move = graph[edge];
         after = before;
         after.junction = static_cast<Word>(target(edge, graph));
-        after.clock += move.seconds;
+        after.clock = (move.is_banned ? gates->entry(before.clock) : before.clock) + move.seconds;
         if (move.kind == DRIVE) {
             after.spell += move.seconds;
             after.shift += move.seconds;
@@ -136,6 +158,15 @@ Word word(const Bytes& bytes, std::size_t number) {
     return bytes.at(at) | bytes.at(at + 1) << 8 | bytes.at(at + 2) << 16 | Word{bytes.at(at + 3)} << 24;
 }
 
+std::vector<Word> read_words(const std::string& path) {
+    const Bytes bytes = read_file(path);
+    std::vector<Word> words;
+    for (std::size_t number = 0; number < bytes.size() / 4; ++number) {
+        words.push_back(word(bytes, number));
+    }
+    return words;
+}
+
 Order read_order(const Bytes& bytes) {
     const auto at = [&bytes](std::size_t number) { return word(bytes, number); };
     return {at(0), at(1), at(2), at(3), at(4), at(5), at(6), at(7), at(8), at(9), at(10), at(11), at(12), at(13), at(14)};
@@ -150,15 +181,16 @@ Word road_time(Word metres, Word speed) {
 }
 
 // Pauses are edges from a car park to itself. Vertex 0 is no junction.
-Graph read_graph(const Bytes& map, const Order& order) {
+Graph read_graph(const Bytes& map, const Order& order, const std::vector<Word>& bans) {
     const std::size_t junctions = word(map, 1), roads = word(map, 2);
     Graph graph(junctions + 1);
-    const auto add = [&graph](std::size_t from, std::size_t to, Kind kind, Word seconds) {
-        add_edge(from, to, Move{num_edges(graph), kind, seconds}, graph);
+    const auto add = [&graph](std::size_t from, std::size_t to, Kind kind, Word seconds, bool is_banned = false) {
+        add_edge(from, to, Move{num_edges(graph), kind, seconds, is_banned}, graph);
     };
     for (std::size_t road = 0; road < roads; ++road) {
         const std::size_t at = 4 + 4 * junctions + 5 * road;
-        add(word(map, at), word(map, at + 1), DRIVE, road_time(word(map, at + 2), word(map, at + 3)));
+        const bool is_banned = std::binary_search(bans.begin(), bans.end(), road + 1);
+        add(word(map, at), word(map, at + 1), DRIVE, road_time(word(map, at + 2), word(map, at + 3)), is_banned);
     }
     for (std::size_t junction = 1; junction <= junctions; ++junction) {
         if (word(map, 4 * junction + 1) == 0) {
@@ -175,13 +207,20 @@ Graph read_graph(const Bytes& map, const Order& order) {
     return graph;
 }
 
+struct Trip {
+    Order order;
+    Graph graph;
+    const Gates* gates;
+};
+
 // The undominated states at target, or those known there when the search is stopped.
-std::vector<State> states_at_target(const Graph& graph, const Order& order, Progress& progress) {
+std::vector<State> states_at_target(const Trip& trip, Progress& progress) {
+    const auto& [order, graph, gates] = trip;
     std::vector<std::vector<Edge>> paths;
     std::vector<State> states;
     const State start{order.departure, order.spell, order.shift, order.week, 1, order.source};
     boost::r_c_shortest_paths(graph, get(boost::vertex_index, graph), get(&Move::index, graph), order.source,
-        order.target, paths, states, start, Extension{order}, dominates,
+        order.target, paths, states, start, Extension{order, gates}, dominates,
         boost::default_r_c_shortest_paths_allocator(), Visitor(progress));
     return states;
 }
@@ -193,12 +232,12 @@ struct Search {
 };
 
 // None where it does not end before the deadline.
-std::optional<Search> timed_search(const Graph& graph, const Order& order, bool only_first, Time::time_point deadline) {
+std::optional<Search> timed_search(const Trip& trip, bool only_first, Time::time_point deadline) {
     Progress progress;
-    progress.stop_at = only_first ? std::optional(order.target) : std::nullopt;
+    progress.stop_at = only_first ? std::optional(trip.order.target) : std::nullopt;
     progress.deadline = deadline;
     const auto begun = Time::now();
-    auto states = states_at_target(graph, order, progress);
+    auto states = states_at_target(trip, progress);
     const auto time = Time::now() - begun;
     if (progress.is_late) {
         return std::nullopt;
@@ -206,11 +245,11 @@ std::optional<Search> timed_search(const Graph& graph, const Order& order, bool 
     return Search{std::move(states), progress.labels, time};
 }
 
-std::optional<Search> best_search(const Graph& graph, const Order& order, bool only_first, int runs, int seconds) {
+std::optional<Search> best_search(const Trip& trip, bool only_first, int runs, int seconds) {
     const auto deadline = Time::now() + std::chrono::seconds(seconds);
     std::optional<Search> best;
     for (int run = 0; run < runs; ++run) {
-        auto search = timed_search(graph, order, only_first, deadline);
+        auto search = timed_search(trip, only_first, deadline);
         if (search && (!best || search->time < best->time)) {
             best = std::move(search);
         }
@@ -233,22 +272,22 @@ void print(const std::optional<Search>& search) {
     std::cout << search->labels << ' ' << search->time.count() << '\n';
 }
 
-void plan_folder(const std::string& folder, bool only_first, int runs, int seconds) {
+Trip read_trip(const std::string& folder, const Gates& gates) {
     const Order order = read_order(read_file(folder + "/order"));
-    const Graph graph = read_graph(read_file(folder + "/map"), order);
-    print(best_search(graph, order, only_first, runs, seconds));
+    return {order, read_graph(read_file(folder + "/map"), order, read_words(folder + "/bans")), &gates};
 }
 
 } // namespace
 
 int main(int count, char** arguments) try {
-    if (count < 4) {
-        throw std::invalid_argument("planner first|all RUNS SECONDS FOLDER...");
+    if (count < 5) {
+        throw std::invalid_argument("planner first|all RUNS SECONDS BAN_DAYS FOLDER...");
     }
     const bool only_first = std::string(arguments[1]) == "first";
     const int runs = std::stoi(arguments[2]), seconds = std::stoi(arguments[3]);
-    for (int number = 4; number < count; ++number) {
-        plan_folder(arguments[number], only_first, runs, seconds);
+    const Gates gates(read_words(arguments[4]));
+    for (int number = 5; number < count; ++number) {
+        print(best_search(read_trip(arguments[number], gates), only_first, runs, seconds));
     }
 } catch (const std::exception& failure) {
     std::cerr << failure.what() << '\n';

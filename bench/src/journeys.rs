@@ -1,4 +1,4 @@
-//! Long journeys, whose sheets are retimed and audited.
+//! Long journeys without bans, whose sheets are retimed and audited.
 
 use other::make::random::Random;
 use other::moves::{Document, Trip};
@@ -20,7 +20,7 @@ pub struct Journey {
 /// So many legal moves at random from junction 1, with short pauses and the widest limits.
 pub fn wander(map: &NamedMap, moves: u64) -> Journey {
     let order = widest_order(1).bytes();
-    let trip = Trip::open(&map.bytes, &order).expect("a sound map and order");
+    let trip = Trip::open(&map.bytes, &order, &[]).expect("a sound map and order");
     let random = &mut Random::new(SEED, moves);
     let mut state = trip.start();
     let mut records = Vec::new();

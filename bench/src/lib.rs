@@ -1,6 +1,7 @@
 //! Two planners to time the proved one against, the maps and trips to time them on, and how times are taken and told.
 
 pub mod answer;
+pub mod ban_days;
 pub mod journeys;
 pub mod machine;
 pub mod map_bytes;

@@ -10,6 +10,13 @@ pub struct Road {
     pub time: u32,
 }
 
+/// Whether each road is banned, by number; index 0 is no road.
+pub fn ban_marks(map: &[u8], bans: &[u32]) -> Vec<bool> {
+    let mut banned = vec![false; road_count(map) + 1];
+    bans.iter().for_each(|road| banned[*road as usize] = true);
+    banned
+}
+
 pub fn junction_count(map: &[u8]) -> usize {
     word(map, 4) as usize
 }

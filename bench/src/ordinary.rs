@@ -8,13 +8,14 @@ use other::moves::Mark;
 use other::sheet::Record;
 
 use crate::answer::Answer;
-use crate::map_bytes::{car_parks, roads};
+use crate::map_bytes::{ban_marks, car_parks, roads};
 use crate::trip::{record_of, sheet_ending_at, State, Step, Trip};
 
 struct Road {
     number: u32,
     to: u32,
     time: u32,
+    is_banned: bool,
 }
 
 #[derive(Default)]
@@ -30,8 +31,9 @@ pub struct Graph {
 }
 
 impl Graph {
-    /// Converts an accepted map.
-    pub fn new(map: &[u8]) -> Graph {
+    /// Converts an accepted map and the list of its banned roads.
+    pub fn new(map: &[u8], bans: &[u32]) -> Graph {
+        let banned = ban_marks(map, bans);
         let mut junctions = vec![Junction::default()];
         junctions.extend(car_parks(map).map(|car_park| Junction {
             car_park,
@@ -42,6 +44,7 @@ impl Graph {
                 number: road.number,
                 to: road.to,
                 time: road.time,
+                is_banned: banned[road.number as usize],
             });
         }
         Graph { junctions }
@@ -118,7 +121,7 @@ impl Ordinary {
     fn push_moves(&mut self, graph: &Graph, trip: &Trip, state: &State) {
         let junction = &graph.junctions[state.junction as usize];
         for road in &junction.roads {
-            let after = trip.after_drive(state, road.to, road.time);
+            let after = trip.after_drive(state, road.to, road.time, road.is_banned);
             self.push_legal(trip, road.number, after);
         }
         if junction.car_park {

@@ -20,23 +20,25 @@ pub const LEAST_TIME: Duration = Duration::from_secs(1);
 /// The moves that the library's sheet has room for.
 pub const LONGEST_PLAN: usize = 100_000;
 
-/// A map and an order in the form that each planner takes.
+/// A map, an order and its ban list in the form that each planner takes.
 struct Prepared<'a> {
     map: &'a [u8],
     order: Vec<u8>,
+    bans: &'a [u32],
     trip: Trip,
     graph: ordinary::Graph,
     compact_graph: strong::Graph,
 }
 
 impl Prepared<'_> {
-    fn new<'a>(map: &'a NamedMap, trip: &NamedTrip) -> Prepared<'a> {
+    fn new<'a>(map: &'a NamedMap, trip: &'a NamedTrip) -> Prepared<'a> {
         Prepared {
             map: &map.bytes,
             order: trip.order.bytes(),
+            bans: &trip.bans,
             trip: Trip::new(&trip.order),
-            graph: ordinary::Graph::new(&map.bytes),
-            compact_graph: strong::Graph::new(&map.bytes),
+            graph: ordinary::Graph::new(&map.bytes, &trip.bans),
+            compact_graph: strong::Graph::new(&map.bytes, &trip.bans),
         }
     }
 }
@@ -88,8 +90,13 @@ impl Default for Planners {
 
 impl Planners {
     /// What the library answers.
-    pub fn library_answer(&mut self, map: &[u8], order: &[u8]) -> Result<Answer, String> {
-        let reply = (LIBRARY.plan)(map, order, &mut self.words, &mut self.sheet);
+    pub fn library_answer(
+        &mut self,
+        map: &[u8],
+        order: &[u8],
+        bans: &[u32],
+    ) -> Result<Answer, String> {
+        let reply = (LIBRARY.plan)(map, order, bans, &mut self.words, &mut self.sheet);
         Answer::told(&reply, &self.sheet)
     }
 
@@ -112,7 +119,7 @@ impl Planners {
 
     /// N, where all three plan alike: the same moves, figures and N.
     fn agreed_labels(&mut self, on: &Prepared) -> Result<u64, String> {
-        let library = self.library_answer(on.map, &on.order)?;
+        let library = self.library_answer(on.map, &on.order, on.bans)?;
         let ordinary = self.ordinary.plan(&on.graph, &on.trip);
         let strong = self.strong.plan(&on.compact_graph, &on.trip);
         if library != ordinary || library != strong {
@@ -136,12 +143,12 @@ impl Planners {
             runs,
             LEAST_TIME,
             [
-                &mut || take((LIBRARY.plan)(on.map, &on.order, words, sheet)),
+                &mut || take((LIBRARY.plan)(on.map, &on.order, on.bans, words, sheet)),
                 &mut || take(ordinary.plan(&on.graph, &on.trip)),
                 &mut || take(strong.plan(&on.compact_graph, &on.trip)),
                 &mut || take((LIBRARY.check_map)(on.map)),
-                &mut || take(ordinary::Graph::new(on.map)),
-                &mut || take(strong::Graph::new(on.map)),
+                &mut || take(ordinary::Graph::new(on.map, on.bans)),
+                &mut || take(strong::Graph::new(on.map, on.bans)),
             ],
         );
         let [library, ordinary, strong, map_check, conversion, compact_conversion] = best;

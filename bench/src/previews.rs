@@ -1,5 +1,5 @@
 //! Previews of closures: the library beside its own planning, on the map as it is and on a copy in which the road is
-//! struck.
+//! struck. No road is banned.
 
 use std::cell::RefCell;
 use std::time::Duration;
@@ -49,11 +49,11 @@ impl Default for Desk {
 
 impl Desk {
     fn plan(&mut self, map: &[u8], order: &[u8]) -> Reply {
-        (LIBRARY.plan)(map, order, &mut self.words, &mut self.sheet)
+        (LIBRARY.plan)(map, order, &[], &mut self.words, &mut self.sheet)
     }
 
     fn preview(&mut self, map: &mut [u8], order: &[u8], road: u32) -> Reply {
-        (LIBRARY.preview)(map, order, road, &mut self.words, &mut self.sheet)
+        (LIBRARY.preview)(map, order, &[], road, &mut self.words, &mut self.sheet)
     }
 
     fn answer(&self, reply: Reply) -> Result<Answer, String> {

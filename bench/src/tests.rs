@@ -15,6 +15,7 @@ use other::retiming::audit;
 use other::sheet::{sheet_bytes, Sheet};
 
 use crate::answer::Answer;
+use crate::ban_days::{ban_days, gate};
 use crate::journeys::wander;
 use crate::map_bytes;
 use crate::maps::{dense_comb, grid, hubs, practice, uniform_grid, usual_comb, NamedMap};
@@ -23,7 +24,7 @@ use crate::planning::Planners;
 use crate::strong::heap::Heap;
 use crate::strong::{self, Strong};
 use crate::trip::Trip;
-use crate::trips::{european_order, european_split_order, NamedTrip, Targets};
+use crate::trips::{european_order, european_split_order, sunday_trips, NamedTrip, Targets};
 
 const SEED: u64 = 1;
 const CASES: u64 = 900;
@@ -36,11 +37,11 @@ struct Both {
 }
 
 impl Both {
-    fn answers(&mut self, map: &[u8], order: &Order) -> [Answer; 2] {
+    fn answers(&mut self, map: &[u8], order: &Order, bans: &[u32]) -> [Answer; 2] {
         let trip = Trip::new(order);
         [
-            self.ordinary.plan(&ordinary::Graph::new(map), &trip),
-            self.strong.plan(&strong::Graph::new(map), &trip),
+            self.ordinary.plan(&ordinary::Graph::new(map, bans), &trip),
+            self.strong.plan(&strong::Graph::new(map, bans), &trip),
         ]
     }
 }
@@ -48,7 +49,7 @@ impl Both {
 fn enumerated(run: &Run) -> Answer {
     let mut labels = vec![0; AMPLE_WORDS];
     let mut sheet = vec![0; sheet_bytes(MOST_STATES)];
-    let reply = (DOCUMENT.plan)(&run.map, &run.order, &mut labels, &mut sheet);
+    let reply = (DOCUMENT.plan)(&run.map, &run.order, &run.bans, &mut labels, &mut sheet);
     Answer::told(&reply, &sheet).expect("an accepted run with label space and sheet to spare")
 }
 
@@ -65,17 +66,19 @@ fn road_times_are_the_other_planners() {
 #[test]
 fn both_answer_as_the_other_planner() {
     let mut both = Both::default();
-    let (mut planned, mut split, mut weekly) = (0, 0, 0);
+    let (mut planned, mut split, mut weekly, mut queued) = (0, 0, 0, 0);
     let (mut without_road, mut most_labels) = (0, 0);
     for number in 0..CASES {
         for run in case(SEED, number).runs() {
-            let Ok(trip) = SmallTrip::open(&run.map, &run.order) else {
+            let Ok(trip) = SmallTrip::open(&run.map, &run.order, &run.bans) else {
                 continue;
             };
             let meant = enumerated(run);
-            for answer in both.answers(&run.map, &trip.order) {
+            for answer in both.answers(&run.map, &trip.order, &run.bans) {
                 assert_eq!(answer, meant, "seed {SEED}, case {number}");
             }
+            let [open, _] = both.answers(&run.map, &trip.order, &[]);
+            queued += u64::from(open != meant);
             match meant {
                 Answer::Planned(ref sheet) => {
                     planned += 1;
@@ -88,9 +91,9 @@ fn both_answer_as_the_other_planner() {
         }
     }
     println!(
-        "{planned} planned, {split} with a split break, {weekly} with a weekly rest, {without_road} without a road, up to {most_labels} labels"
+        "{planned} planned, {split} with a split break, {weekly} with a weekly rest, {queued} changed by bans, {without_road} without a road, up to {most_labels} labels"
     );
-    assert!(planned > 300 && split > 10 && weekly > 10);
+    assert!(planned > 300 && split > 10 && weekly > 10 && queued > 10);
     assert!(without_road > 50 && most_labels > 100);
 }
 
@@ -132,18 +135,42 @@ fn both_agree_on_larger_maps() {
             let without_split = [european, short_pauses, short_weeks];
             let with_split = [split, short_parts, split_short_weeks];
             for order in without_split.into_iter().chain(with_split) {
-                let [one, two] = both.answers(&map.bytes, &order);
+                let [one, two] = both.answers(&map.bytes, &order, &[]);
                 assert_eq!(one, two, "{}, {order:?}", map.name);
             }
         }
     }
 }
 
+/// A short first part fits into a queue, and a second as long as the break leads where that leads.
+#[test]
+fn both_agree_on_larger_maps_with_bans() {
+    let mut both = Both::default();
+    let mut changed = 0;
+    for map in [practice(256), practice(1_024), grid(16)] {
+        let trips = Targets::of(&map.bytes).near_middle_far();
+        for trip in sunday_trips(&map, &trips, &[1, 10, 100]) {
+            let short_parts = Order {
+                first_part: 300,
+                second_part: 2_700,
+                ..trip.order.clone()
+            };
+            for order in [&trip.order, &short_parts] {
+                let [one, two] = both.answers(&map.bytes, order, &trip.bans);
+                assert_eq!(one, two, "{}, {}", map.name, trip.name);
+                let [open, _] = both.answers(&map.bytes, order, &[]);
+                changed += u64::from(one != open);
+            }
+        }
+    }
+    assert!(changed > 50, "{changed}");
+}
+
 #[test]
 fn targets_have_the_labels_that_a_search_takes() {
     let map = practice(1_024);
     let labels = |trip: &NamedTrip| {
-        let [answer, _] = Both::default().answers(&map.bytes, &trip.order);
+        let [answer, _] = Both::default().answers(&map.bytes, &trip.order, &trip.bans);
         answer.labels() as usize
     };
     let counts = [1, 100, 1_000];
@@ -169,7 +196,7 @@ fn trips_late_in_the_week_take_a_weekly_rest() {
     for trip in [middle, far] {
         let late = trip.late_in_the_week();
         let takes_weekly_rest = |trip: &NamedTrip| {
-            let answers = Both::default().answers(&map.bytes, &trip.order);
+            let answers = Both::default().answers(&map.bytes, &trip.order, &trip.bans);
             answers.map(|answer| match answer {
                 Answer::Planned(sheet) => has_a(&sheet, &[WEEKLY]),
                 Answer::NoRoad(_) => panic!("{}", trip.name),
@@ -184,7 +211,7 @@ fn trips_late_in_the_week_take_a_weekly_rest() {
 fn wandering_makes_true_sheets() {
     let map = practice(64);
     let journey = wander(&map, 500);
-    let reply = audit::<Document>(&map.bytes, &journey.order, &journey.sheet);
+    let reply = audit::<Document>(&map.bytes, &journey.order, &[], &journey.sheet);
     assert_eq!((reply.number, reply.place), (0, journey.moves));
 }
 
@@ -226,7 +253,7 @@ fn lists_of_labels_grow_along_a_comb() {
     let labels_a_junction = |teeth| {
         let map = dense_comb(teeth);
         let trips = Targets::of(&map.bytes).with_labels(&[]);
-        let [answer, _] = Both::default().answers(&map.bytes, &trips[0].order);
+        let [answer, _] = Both::default().answers(&map.bytes, &trips[0].order, &[]);
         answer.labels() / (2 * teeth)
     };
     let [short, long] = [40, 160].map(labels_a_junction);
@@ -238,7 +265,10 @@ fn all_agree_on_combs_and_hubs() {
     let mut planners = Planners::default();
     for map in [dense_comb(60), hubs(12, 120), uniform_grid(16)] {
         for trip in Targets::of(&map.bytes).near_middle_far() {
-            for trip in [trip.with_split(), trip.late_in_the_week(), trip] {
+            let split = trip.with_split();
+            let banned = sunday_trips(&map, &[trip.clone(), split.clone()], &[10, 100]);
+            let early_and_late = [split, trip.late_in_the_week(), trip];
+            for trip in banned.into_iter().chain(early_and_late) {
                 assert!(planners.labels(&map, &trip).expect("one plan") > 0);
             }
         }
@@ -256,4 +286,32 @@ fn the_heap_gives_keys_in_order() {
         let given: Vec<u128> = std::iter::from_fn(|| heap.pop()).collect();
         assert_eq!(given, keys);
     }
+}
+
+/// The clocks of document 02's words: ends of the ban, Easter 2000 and 2024, and the day of the latest clock.
+#[test]
+fn gates_open_at_22() {
+    for (clock, entry) in [
+        (86_399, 86_399),
+        (86_400, 165_600),
+        (165_599, 165_600),
+        (165_600, 165_600),
+        (9_590_400, 9_669_600),
+        (9_842_400, 9_842_400),
+        (9_849_600, 9_928_800),
+        (13_132_800, 13_212_000),
+        (14_083_200, 14_162_400),
+        (764_985_600, 765_064_800),
+        (2_000_000_000, 2_000_000_000),
+    ] {
+        assert_eq!(gate(clock), entry);
+    }
+}
+
+/// Four feasts of each year up to 2062, and two of 2063: its Ascension is behind the latest clock.
+#[test]
+fn feasts_are_no_sundays() {
+    let feasts = ban_days().filter(|day| day % 7 != 1).count();
+    let sundays = ban_days().count() - feasts;
+    assert_eq!((sundays, feasts), (3_307, 4 * 63 + 2));
 }

@@ -5,6 +5,8 @@ use other::moves::{Mark, Move, BREAK, DRIVE, FIRST, REST, SECOND, WEEKLY};
 use other::order::Order;
 use other::sheet::{Record, Sheet};
 
+use crate::ban_days::gate;
+
 /// The fields stand in the order of rank, so that the derived comparison is rank.
 #[derive(Clone, Copy, Debug, PartialEq, Eq, PartialOrd, Ord)]
 pub struct State {
@@ -66,9 +68,15 @@ impl Trip {
         }
     }
 
-    pub fn after_drive(&self, state: &State, to: u32, time: u32) -> State {
+    /// The road is entered when its gate opens; only the clock sees the queue.
+    pub fn after_drive(&self, state: &State, to: u32, time: u32, is_banned: bool) -> State {
+        let entry = if is_banned {
+            gate(state.clock)
+        } else {
+            state.clock
+        };
         State {
-            clock: state.clock + time,
+            clock: entry + time,
             spell: state.spell + time,
             shift: state.shift + time,
             week: state.week + time,

@@ -1,15 +1,24 @@
 //! The trips that are timed: from junction 1 under the European figures, to targets chosen by N without a split, for a
 //! driver who comes from a weekly rest.
 
+use other::make::practice::{draw, USUAL_START};
 use other::order::{Order, EUROPEAN_RULES, LATEST_CLOCK};
 
+use crate::map_bytes::road_count;
+use crate::maps::NamedMap;
 use crate::strong::{Graph, Strong};
 use crate::trip::Trip;
 
+#[derive(Clone)]
 pub struct NamedTrip {
     pub name: String,
     pub order: Order,
+    /// The banned roads, rising.
+    pub bans: Vec<u32>,
 }
+
+/// When a trip sets out that meets a Sunday, by name: the evening before, 1 January 2000, and that morning.
+const SUNDAY_DEPARTURES: [(&str, u64); 2] = [("Saturday 20:00", 72_000), ("Sunday 06:00", 108_000)];
 
 /// What a driver late in the week may drive before a weekly rest.
 const LEFT_OF_THE_WEEK: u64 = 10_800;
@@ -18,20 +27,54 @@ impl NamedTrip {
     /// The same trip with Europe's parts of a break.
     pub fn with_split(&self) -> NamedTrip {
         NamedTrip {
-            name: self.name.clone(),
             order: european_split_order(self.order.target),
+            ..self.clone()
         }
     }
 
     /// The same trip for a driver who comes from a rest and has driven nearly all of the week.
     pub fn late_in_the_week(&self) -> NamedTrip {
         NamedTrip {
-            name: self.name.clone(),
             order: Order {
                 week: self.order.week_limit - LEFT_OF_THE_WEEK,
                 ..self.order.clone()
             },
+            ..self.clone()
         }
+    }
+
+    /// The same trip over a Sunday, with so many roads in a hundred of the map banned, whichever are drawn.
+    fn over_a_sunday(
+        &self,
+        map: &NamedMap,
+        (name, departure): (&str, u64),
+        percent: u64,
+    ) -> NamedTrip {
+        let mut state = USUAL_START;
+        let is_drawn = |_: &u32| draw(&mut state) % 100 < percent;
+        let roads = 1..=road_count(&map.bytes) as u32;
+        let banned = NamedTrip {
+            order: Order {
+                departure,
+                ..self.order.clone()
+            },
+            bans: roads.filter(is_drawn).collect(),
+            ..self.clone()
+        };
+        banned.called(&format!("{name}, {percent}% banned"))
+    }
+
+    /// The same trip with this behind its name.
+    pub fn called(self, what: &str) -> NamedTrip {
+        NamedTrip {
+            name: format!("{}, {what}", self.name),
+            ..self
+        }
+    }
+
+    fn unbanned(name: String, order: Order) -> NamedTrip {
+        let bans = Vec::new();
+        NamedTrip { name, order, bans }
     }
 }
 
@@ -53,6 +96,16 @@ pub fn european_split_order(target: u64) -> Order {
     }
 }
 
+/// Each trip with each departure, and with so many roads in a hundred banned.
+pub fn sunday_trips(map: &NamedMap, trips: &[NamedTrip], percents: &[u64]) -> Vec<NamedTrip> {
+    let with_bans = |trip: &NamedTrip, departure| {
+        let banned = |percent: &u64| trip.over_a_sunday(map, departure, *percent);
+        percents.iter().map(banned).collect::<Vec<NamedTrip>>()
+    };
+    let departing = |trip| SUNDAY_DEPARTURES.map(|departure| with_bans(trip, departure));
+    trips.iter().flat_map(departing).flatten().collect()
+}
+
 /// The targets that a million labels reach, by N.
 pub struct Targets {
     /// N and target, by rising N.
@@ -63,7 +116,7 @@ impl Targets {
     /// A search passes through the same labels whatever its target, so that one tells every N.
     pub fn of(map: &[u8]) -> Targets {
         let trip = Trip::new(&european_order(1));
-        let needed = Strong::default().labels_to_each(&Graph::new(map), &trip);
+        let needed = Strong::default().labels_to_each(&Graph::new(map, &[]), &trip);
         let mut by_labels: Vec<_> = needed
             .into_iter()
             .zip(0..)
@@ -79,10 +132,7 @@ impl Targets {
             .map(|(name, percentile)| {
                 let index = (self.by_labels.len() - 1) * percentile / 100;
                 let (_, target) = self.by_labels[index];
-                NamedTrip {
-                    name: format!("{name}, to {target}"),
-                    order: european_order(target),
-                }
+                NamedTrip::unbanned(format!("{name}, to {target}"), european_order(target))
             })
             .into()
     }
@@ -98,10 +148,7 @@ impl Targets {
             .iter()
             .filter_map(first_with)
             .chain(self.by_labels.last())
-            .map(|(_, target)| NamedTrip {
-                name: format!("to {target}"),
-                order: european_order(*target),
-            })
+            .map(|(_, target)| NamedTrip::unbanned(format!("to {target}"), european_order(*target)))
             .collect()
     }
 }

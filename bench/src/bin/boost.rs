@@ -1,6 +1,6 @@
 //! Holds the library's plans against those of Boost.Graph's `r_c_shortest_paths` (`bench/boost`), on small random trips
-//! and on practice maps, and prints the times on practice maps as a table in markdown. A plan that differs ends it; no
-//! time does.
+//! with bans and without and on practice maps, and prints the times on practice maps as a table in markdown. A plan that
+//! differs ends it; no time does.
 
 use std::fs::{create_dir_all, write};
 use std::io::Error;
@@ -9,6 +9,7 @@ use std::process::{Command, ExitCode};
 use std::time::Duration;
 
 use bench::answer::Answer;
+use bench::ban_days::ban_days;
 use bench::machine::{exit_code, load, processor};
 use bench::maps::{practice, NamedMap};
 use bench::planning::{Planners, Timed};
@@ -78,10 +79,15 @@ struct Found {
 impl Boost {
     fn search(&self, runs: usize, trips: &[Run]) -> Result<Vec<Searched>, String> {
         let folders = self.lay_out(trips).map_err(|error| error.to_string())?;
+        write(self.ban_days(), bytes_of(ban_days())).map_err(|error| error.to_string())?;
         let first = self.find("first", runs, &folders)?;
         let all = self.find("all", runs, &folders)?;
         let both = first.into_iter().zip(all);
         Ok(both.map(|(first, all)| Searched { first, all }).collect())
+    }
+
+    fn ban_days(&self) -> PathBuf {
+        self.folder.join("ban_days")
     }
 
     /// Writes each trip's files into a folder of its own.
@@ -91,6 +97,7 @@ impl Boost {
             create_dir_all(&folder)?;
             write(folder.join("map"), &trip.map)?;
             write(folder.join("order"), &trip.order)?;
+            write(folder.join("bans"), bytes_of(trip.bans.iter().copied()))?;
             Ok(folder)
         };
         trips.iter().enumerate().map(write_trip).collect()
@@ -104,6 +111,7 @@ impl Boost {
     ) -> Result<Vec<Option<Found>>, String> {
         let ran = Command::new(&self.program)
             .args([mode, &runs.to_string(), &MOST_SECONDS.to_string()])
+            .arg(self.ban_days())
             .args(folders)
             .output()
             .map_err(|error| error.to_string())?;
@@ -117,6 +125,10 @@ impl Boost {
         }
         Ok(found)
     }
+}
+
+fn bytes_of(words: impl Iterator<Item = u32>) -> Vec<u8> {
+    words.flat_map(u32::to_le_bytes).collect()
 }
 
 fn read_line(line: &str) -> Result<Option<Found>, String> {
@@ -162,9 +174,9 @@ fn agree(answer: &Answer, searched: &Searched) -> Result<(), String> {
 fn compare_small_trips(boost: &Boost, planners: &mut Planners) -> Result<(), String> {
     let trips = small_trips();
     let searches = boost.search(1, &trips)?;
-    let (mut planned, mut weekly, mut split) = (0, 0, 0);
+    let (mut planned, mut weekly, mut split, mut banned) = (0, 0, 0, 0);
     for (number, (trip, searched)) in trips.iter().zip(&searches).enumerate() {
-        let answer = planners.library_answer(&trip.map, &trip.order)?;
+        let answer = planners.library_answer(&trip.map, &trip.order, &trip.bans)?;
         if searched.first.is_none() || searched.all.is_none() {
             return Err(format!("small trip {number} takes Boost too long"));
         }
@@ -175,9 +187,10 @@ fn compare_small_trips(boost: &Boost, planners: &mut Planners) -> Result<(), Str
             weekly += u64::from(records.any(|record| record.step.kind == WEEKLY));
         }
         split += u64::from(Order::read(&trip.order).has_split());
+        banned += u64::from(!trip.bans.is_empty());
     }
     println!(
-        "{} small trips agree in arrival, spell, shift, week and N: {planned} have a plan, {weekly} of them with a weekly rest, {split} an order with a split.\n",
+        "{} small trips agree in arrival, spell, shift, week and N: {planned} have a plan, {weekly} of them with a weekly rest, {split} an order with a split, {banned} banned roads.\n",
         trips.len()
     );
     Ok(())
@@ -185,7 +198,7 @@ fn compare_small_trips(boost: &Boost, planners: &mut Planners) -> Result<(), Str
 
 /// The first random runs that are accepted.
 fn small_trips() -> Vec<Run> {
-    let is_accepted = |run: &Run| SmallTrip::open(&run.map, &run.order).is_ok();
+    let is_accepted = |run: &Run| SmallTrip::open(&run.map, &run.order, &run.bans).is_ok();
     let runs_of = |number| case(SEED, number).runs().cloned().collect::<Vec<Run>>();
     let runs = (0..).flat_map(runs_of);
     runs.filter(is_accepted).take(SMALL_TRIPS).collect()
@@ -227,8 +240,9 @@ fn search_practice(
     let run = Run {
         map: map.bytes.clone(),
         order: trip.order.bytes(),
+        bans: trip.bans.clone(),
     };
-    let answer = planners.library_answer(&run.map, &run.order)?;
+    let answer = planners.library_answer(&run.map, &run.order, &run.bans)?;
     let mut searched = boost.search(RUNS, &[run])?;
     let searched = searched.remove(0);
     agree(&answer, &searched).map_err(|why| format!("{}, {}: {why}", map.name, trip.name))?;

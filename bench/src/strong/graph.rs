@@ -1,12 +1,24 @@
 //! A map with each junction's roads side by side in one list.
 
-use crate::map_bytes::{car_parks, junction_count, road_count, roads};
+use other::mapcheck::MOST_JUNCTIONS;
 
+use crate::map_bytes::{ban_marks, car_parks, junction_count, road_count, roads};
+
+/// Twelve bytes.
 #[derive(Clone, Copy, Default)]
 pub struct Road {
     pub number: u32,
-    pub to: u32,
     pub time: u32,
+    to: u16,
+    pub is_banned: bool,
+}
+
+const _: () = assert!(MOST_JUNCTIONS <= u16::MAX as u64);
+
+impl Road {
+    pub fn to(&self) -> u32 {
+        self.to.into()
+    }
 }
 
 #[derive(Clone, Copy, Default)]
@@ -22,8 +34,9 @@ pub struct Graph {
 }
 
 impl Graph {
-    /// Converts an accepted map.
-    pub fn new(map: &[u8]) -> Graph {
+    /// Converts an accepted map and the list of its banned roads.
+    pub fn new(map: &[u8], bans: &[u32]) -> Graph {
+        let banned = ban_marks(map, bans);
         let mut junctions = vec![Junction::default(); junction_count(map) + 2];
         for (junction, car_park) in junctions[1..].iter_mut().zip(car_parks(map)) {
             junction.car_park = car_park;
@@ -35,8 +48,9 @@ impl Graph {
             *first -= 1;
             sorted[*first as usize] = Road {
                 number: road.number,
-                to: road.to,
                 time: road.time,
+                to: road.to as u16,
+                is_banned: banned[road.number as usize],
             };
         }
         Graph {

@@ -14,6 +14,7 @@ use other::sheet::Record;
 use crate::answer::Answer;
 use crate::trip::{record_of, sheet_ending_at, State, Step, Trip};
 pub use graph::Graph;
+use graph::Road;
 use heap::Heap;
 use key::{Key, MOST_ENTRIES};
 use settled::{Origin, Settled};
@@ -82,7 +83,7 @@ impl Strong {
     /// The legal moves from the label settled last.
     fn push_moves(&mut self, graph: &Graph, trip: &Trip, state: &State) {
         for road in graph.roads_of(state.junction) {
-            let after = trip.after_drive(state, road.to, road.time);
+            let after = after_road(trip, state, road);
             self.push_legal(trip, road.number, &after);
         }
         if graph.is_car_park(state.junction) {
@@ -125,5 +126,9 @@ fn after_step(graph: &Graph, trip: &Trip, state: &State, step: Step) -> State {
     let road = roads
         .find(|road| road.number == step)
         .expect("a road of this junction");
-    trip.after_drive(state, road.to, road.time)
+    after_road(trip, state, road)
+}
+
+fn after_road(trip: &Trip, state: &State, road: &Road) -> State {
+    trip.after_drive(state, road.to(), road.time, road.is_banned)
 }

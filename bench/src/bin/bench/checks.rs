@@ -82,29 +82,29 @@ pub fn print_sheet_checks(runs: usize, map: &NamedMap, lengths: &[u64]) -> Resul
 
 /// The times of retiming and of audit, each the library's and the other's.
 fn sheet_times(runs: usize, map: &[u8], journey: &Journey) -> Result<[[Duration; 2]; 2], String> {
-    let (order, sheet) = (&journey.order[..], &journey.sheet[..]);
+    let (order, bans, sheet) = (&journey.order[..], &[], &journey.sheet[..]);
     let mut out = vec![0; sheet.len()];
     let mut other_out = vec![0; sheet.len()];
     agree(
         "retiming",
-        (LIBRARY.retime)(map, order, sheet, &mut out),
-        (DOCUMENT.retime)(map, order, sheet, &mut other_out),
+        (LIBRARY.retime)(map, order, bans, sheet, &mut out),
+        (DOCUMENT.retime)(map, order, bans, sheet, &mut other_out),
     )?;
     if out != sheet || other_out != sheet {
         return Err("retiming a true sheet writes another".to_string());
     }
     agree(
         "audit",
-        (LIBRARY.audit)(map, order, sheet),
-        (DOCUMENT.audit)(map, order, sheet),
+        (LIBRARY.audit)(map, order, bans, sheet),
+        (DOCUMENT.audit)(map, order, bans, sheet),
     )?;
     let [library_retime, other_retime, library_audit, other_audit] = best_of(
         runs,
         [
-            &mut || take((LIBRARY.retime)(map, order, sheet, &mut out)),
-            &mut || take((DOCUMENT.retime)(map, order, sheet, &mut other_out)),
-            &mut || take((LIBRARY.audit)(map, order, sheet)),
-            &mut || take((DOCUMENT.audit)(map, order, sheet)),
+            &mut || take((LIBRARY.retime)(map, order, bans, sheet, &mut out)),
+            &mut || take((DOCUMENT.retime)(map, order, bans, sheet, &mut other_out)),
+            &mut || take((LIBRARY.audit)(map, order, bans, sheet)),
+            &mut || take((DOCUMENT.audit)(map, order, bans, sheet)),
         ],
     );
     Ok([[library_retime, other_retime], [library_audit, other_audit]])

@@ -11,7 +11,7 @@ use bench::machine::{exit_code, load, processor};
 use bench::maps::{dense_comb, grid, hubs, practice, uniform_grid, usual_comb, NamedMap};
 use bench::planning::{Planners, Timed, LEAST_TIME};
 use bench::previews;
-use bench::trips::{NamedTrip, Targets};
+use bench::trips::{sunday_trips, NamedTrip, Targets};
 use checks::{print_map_checks, print_sheet_checks};
 use closures::print_previews;
 use other::mapcheck::MOST_JUNCTIONS;
@@ -85,6 +85,7 @@ fn report(extent: &Extent) -> Result<(), String> {
     );
     let maps = usual_maps(extent);
     report_planning(extent, &maps)?;
+    report_bans(extent)?;
     println!("### Previews of closures, microseconds\n");
     print_previews(runs, &maps)?;
     println!("### Map check, nanoseconds per road\n");
@@ -143,6 +144,34 @@ fn report_growth(extent: &Extent, planning: &mut Planning) -> Result<(), String>
         let trips = trips.into_iter().map(|trip| (map, trip));
         planning.report(what, extent.runs, trips)?;
     }
+    Ok(())
+}
+
+/// So many roads in a hundred are banned.
+const BANNED_PERCENTS: [u64; 3] = [1, 10, 100];
+
+/// Middle and far trips over a Sunday on the largest practice map and grid, each behind the same trip without bans.
+fn report_bans(extent: &Extent) -> Result<(), String> {
+    let practice_map = extent.practice_sizes.last().map(|size| practice(*size));
+    let grid_map = extent.grid_sides.last().map(|side| grid(*side));
+    let mut planning = Planning::default();
+    for map in practice_map.into_iter().chain(grid_map) {
+        let mut trips = Vec::new();
+        for trip in Targets::of(&map.bytes)
+            .near_middle_far()
+            .into_iter()
+            .skip(1)
+        {
+            let banned = sunday_trips(&map, std::slice::from_ref(&trip), &BANNED_PERCENTS);
+            trips.push(trip);
+            trips.extend(banned);
+        }
+        let what = format!("Ban days, {}", map.name);
+        let trips = trips.into_iter().map(|trip| (&map, trip));
+        planning.report(&what, extent.runs, trips)?;
+    }
+    println!("### Ban days, summary\n");
+    print_summary(&planning.timed);
     Ok(())
 }
 
