@@ -10,8 +10,8 @@ usage() {
 usage: run.sh [FOLDER]
 
 Prints the plan of the files `map` and `order` in FOLDER, or without FOLDER that of map T, in crates/plan/data.
-docs/FORMATS.md describes both files and the lines printed. The program lends 1,600 labels, and the two files
-together may have 64 KiB.
+No road is banned. docs/FORMATS.md describes both files and the lines printed. The program lends 1,600 labels,
+and the two files together may have 64 KiB.
 
 The first run proves the program and all that it needs, which takes some minutes, and tells its progress on
 standard error; later runs start at once. Needs the Rattle toolchain (rt) on the path, and nothing else.
